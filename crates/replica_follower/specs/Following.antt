@@ -1,11 +1,12 @@
 -- One node's machine as it follows its node: the log that its node has applied in its boot, and what the transports of its node were handed
 -- (docs/CONSENSUS.md, "A node's machine").
-use Rattle.std.specs.Prelude.{◌≡◌, ◌⊎◌, ℕ, ◌<◌, ◌≤◌, Bool, true, false, ◌&&◌, ◌==◌, List, [], filter, length, take, if◌then◌else◌}
+use Rattle.std.specs.Prelude.{◌≡◌, ◌⊎◌, ℕ, ◌<◌, ◌≤◌, Bool, true, false, ◌&&◌, ◌==◌, Option, IfSome, List, [], filter, length, take, if◌then◌else◌}
 use Rattle.paxos_packets.specs.declared.entry.Entry.{Entry}
 use Rattle.paxos_packets.specs.declared.transport.Transport.{Transport}
 use Rattle.paxos_packets.specs.Transport.{same_transport}
 use Rattle.replica_machine.specs.Log.{LogState, IsLogOf, steps_of}
 use Rattle.replica_machine.specs.Replay.{Machine, sayings_behind}
+use Rattle.replica_machine.specs.Snapshot.{Kept, loaded_log}
 use Rattle.replica_follower.specs.declared.handed.Told.{Told}
 
 -- the node's number; the log that it has applied in its boot, with the machine that follows it; whether the machine is given up; and what
@@ -35,6 +36,10 @@ handed_to m t node boot log entries = if (node == t.node) && (boot == t.boot) th
 abbrev pub Follows : {B M S Y : Type 0} → (M → S) → Machine B S Y → List (Entry B) → Followed B M Y → Type 0
 Follows content m under f = f.given_up ≡ false → IsLogOf (steps_of m) content m.first under f.log
 
+-- if a log is made of these octets, it is one of which this is kept
+abbrev pub LoadsAs : {S : Type 0} → (List ℕ → Option S) → Kept S → List ℕ → Type 0
+LoadsAs loaded kept octets = IfSome (loaded_log loaded octets) (λ made. made ≡ kept)
+
 -- the log with the first of its entries alone
 abbrev pub up_to : {B M : Type 0} → ℕ → LogState B M → LogState B M
 up_to stands log = record log { applied = take stands log.applied }
@@ -44,7 +49,7 @@ abbrev pub HasHeard : {B M : Type 0} → ℕ → LogState B M → Type 0
 HasHeard stands applied = (applied.failed ≡ true) ⊎ (stands < length applied.applied)
 
 -- the log holds the entries that the node has, and nothing ahead of them; if the machine is not given up it holds no more; and it is given up
--- only after it was given an entry that its node does not have, or at a restart
+-- only after it was given an entry that its node does not have, or where its node stands at the log's floor
 pub record IsHeld {B M : Type 0} (stands : ℕ) (applied : LogState B M) (given_up : Bool) : Type 0 where
   pub within : stands ≤ length applied.applied
   pub ahead : applied.ahead ≡ []

@@ -5,9 +5,9 @@ ghost use Rattle.paxos_packets.specs.declared.entry.Entry as log_entries;
 ghost use Rattle.paxos_packets.specs.declared.transport.Transport.{Transport};
 ghost use Rattle.replica_machine.specs.declared.fault.SaveFault.TheVariants as save;
 ghost use Rattle.replica_machine.specs.Given.{AreGiven};
-ghost use Rattle.replica_machine.specs.Log.{machine_from, first_log, length_in, IsLogOf};
-ghost use Rattle.replica_machine.specs.Snapshot.{kept_of, kept_octets, loaded_log, IsLoaded};
-ghost use Rattle.replica_follower.specs.Following.{Follows, handed_to};
+ghost use Rattle.replica_machine.specs.Log.{machine_from, first_log, cut_log, length_in, IsLogOf};
+ghost use Rattle.replica_machine.specs.Snapshot.{kept_of, kept_after, kept_octets, loaded_log, IsLoaded};
+ghost use Rattle.replica_follower.specs.Following.{Follows, LoadsAs, handed_to};
 ghost use Rattle.replica_follower.specs.Handed.{said_in, tellings, TellAll};
 
 use crate::handed::Handed;
@@ -128,11 +128,43 @@ impl<M: Machine> Follower<M> {
             → IsLogOf M.steps M.content first under self.now.log → AreGiven (under ++ self.now.log.applied)
             → length_in self.now.log < 2 ^ 40
             → IfOk result (λ octets. IfSome (loaded_log M.loaded octets.items) (λ kept. kept ≡ kept_of M.content self.now.log)) }
+        ensures alive { IfOk result (λ octets. self.now.given_up ≡ false) }
+        ensures keeps { (first : M.Content) (under : List (log_entries.Entry M.Body))
+            → Follows M.content (machine_from M.steps first) under self.now
+            → IfOk result (λ octets. octets.items
+            ≡ kept_octets M.saved (kept_after (machine_from M.steps first) (under ++ self.now.log.applied))) }
+        ensures loads { (first : M.Content) (under : List (log_entries.Entry M.Body))
+            → Follows M.content (machine_from M.steps first) under self.now
+            → AreGiven (under ++ self.now.log.applied) → length (under ++ self.now.log.applied) < 2 ^ 40
+            → IfOk result (λ octets. LoadsAs M.loaded (kept_after (machine_from M.steps first) (under ++ self.now.log.applied)) octets.items) }
     {
         if self.given_up {
             return Err(SaveFault::Failed);
         }
         self.applied.save()
+    }
+
+    /// Forgets the entries of its log, as its node does once it rests on a snapshot of that: the log's length is its floor from then on.
+    /// What was handed out stays. Does not allocate.
+    ///
+    /// A log that is longer than there are slots is kept by no snapshot: its machine is given up.
+    pub fn rest_on(&mut self)
+        ensures node { self.new.node ≡ self.old.node }
+        ensures told { self.new.told ≡ self.old.told }
+        ensures applied { self.new.log.applied ≡ [] }
+        ensures log { self.old.given_up ≡ false → length_in self.old.log < 2 ^ 40 → self.new.log ≡ cut_log self.old.log }
+        ensures given_up { length_in self.old.log < 2 ^ 40 → self.new.given_up ≡ self.old.given_up }
+        ensures stays_given_up { self.old.given_up ≡ true → self.new.given_up ≡ true }
+        ensures follows { (first : M.Content) (under : List (log_entries.Entry M.Body))
+            → Follows M.content (machine_from M.steps first) under self.old
+            → Follows M.content (machine_from M.steps first) (under ++ self.old.log.applied) self.new }
+    {
+        self.stands = 0;
+        if self.given_up {
+            return;
+        }
+        self.applied.cut();
+        self.given_up = !self.applied.applied().is_empty();
     }
 
     /// Applies these entries, which its node applies after its log in this boot: gives them to the machine, and hands to each transport of
@@ -186,6 +218,55 @@ impl<M: Machine> Follower<M> {
         }
     }
 
+    /// Makes the machine anew from the octets of a log, and applies the entries after its floor, as its node does in this boot when it takes
+    /// that log over: hands to each transport of this boot what is said to it at these entries. The machine is given up no more.
+    ///
+    /// It is whole or not at all: on `Memory`, and that is also returned if the octets are none that were saved, or the machine fails at an
+    /// entry, nothing was handed out, and the machine that there was goes on. Takes time as `follow`, besides that of `AppliedLog::load`.
+    pub fn take(
+        &mut self,
+        boot: u64,
+        octets: &[u8],
+        entries: &[Entry<M::Body>],
+    ) -> Result<(), Memory>
+        ensures node { self.new.node ≡ self.old.node }
+        ensures ok_log { OnOk result (self.new.log.applied ≡ entries.now) }
+        ensures ok_alive { OnOk result (self.new.given_up ≡ false) }
+        ensures ok_follows { (first : M.Content) (under : List (log_entries.Entry M.Body)) → AreGiven under
+            → LoadsAs M.loaded (kept_after (machine_from M.steps first) under) octets.now
+            → OnOk result (Follows M.content (machine_from M.steps first) under self.new) }
+        ensures ok_handed { (first : M.Content) (under : List (log_entries.Entry M.Body)) → AreGiven under
+            → LoadsAs M.loaded (kept_after (machine_from M.steps first) under) octets.now
+            → OnOk result ((t : Transport) → said_in t self.new.told ≡ said_in t self.old.told
+            ++ handed_to (machine_from M.steps first) t self.old.node boot under entries.now) }
+        ensures damaged { loaded_log M.loaded octets.now ≡ None → IsErr result }
+        ensures err_log { OnErr result (self.new.log ≡ self.old.log) }
+        ensures err_given_up { OnErr result (self.new.given_up ≡ self.old.given_up) }
+        ensures err_handed { OnErr result ((t : Transport) → said_in t self.new.told ≡ said_in t self.old.told) }
+        ensures err_follows { (first : M.Content) (under : List (log_entries.Entry M.Body))
+            → Follows M.content (machine_from M.steps first) under self.old
+            → OnErr result (Follows M.content (machine_from M.steps first) under self.new) }
+    {
+        let rest = copies(self.alloc, entries)?;
+        let Ok(mut made) = AppliedLog::load(self.alloc, octets) else {
+            return Err(Memory);
+        };
+        let Ok(()) = tell(
+            self.alloc,
+            &mut made,
+            &mut self.handed,
+            self.node,
+            boot,
+            rest,
+        ) else {
+            return Err(Memory);
+        };
+        self.applied = made;
+        self.stands = self.applied.applied().len();
+        self.given_up = false;
+        Ok(())
+    }
+
     /// Makes the machine anew from the octets of a log, as its node begins its next boot: no entry is applied after their floor then, and the
     /// machine is given up no more. What was handed out stays.
     ///
@@ -197,6 +278,9 @@ impl<M: Machine> Follower<M> {
         ensures loaded { OnOk result (self.new.given_up ≡ false →
             IsSomeAnd (loaded_log M.loaded octets.now) (λ kept. IsLoaded M.content kept self.new.log)) }
         ensures damaged { OnOk result (self.new.given_up ≡ true → loaded_log M.loaded octets.now ≡ None) }
+        ensures follows { (first : M.Content) (under : List (log_entries.Entry M.Body)) → AreGiven under
+            → LoadsAs M.loaded (kept_after (machine_from M.steps first) under) octets.now
+            → OnOk result (Follows M.content (machine_from M.steps first) under self.new) }
         ensures err { OnErr result (self.new ≡ self.old) }
     {
         match AppliedLog::load(self.alloc, octets) {

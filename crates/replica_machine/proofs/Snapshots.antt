@@ -16,13 +16,13 @@ use Rattle.replica_machine.specs.declared.input.Input.{Input}
 use Rattle.replica_machine.specs.declared.input.Input.TheVariants as Given
 use Rattle.replica_machine.specs.declared.roll.Standing.{Standing}
 use Rattle.replica_machine.specs.declared.roll.Standing.TheVariants.{Unknown, Live, Gone}
-use Rattle.replica_machine.specs.Roll.{is_new_boot, is_live, is_next, gone, live_in, standing_after, standing_from, standing, standing_in, takes_effect, IsRollOf}
+use Rattle.replica_machine.specs.Roll.{is_new_boot, is_live, is_next, gone, live_in, standing_after, standing_from, standing, standings, standing_in, takes_effect, IsRollOf}
 use Rattle.replica_machine.specs.Given.{is_node, is_number, is_given_entry, IsGiven, AreGiven}
 use Rattle.replica_machine.specs.Log.{LogState, length_in, IsAt, IsLogOf, machine_from, next_by}
 use Rattle.replica_machine.specs.Replay.{Machine, input_of, state, Steps}
 use Rattle.replica_machine.specs.Snapshot.{floor_form, count_form, flag_form, numbers_octets, standing_octets, standing_by, unless_none}
-use Rattle.replica_machine.specs.Snapshot.{standing_reading, standings_octets, seven_reading, seven, standing_from_node, head_octets, head_reading}
-use Rattle.replica_machine.specs.Snapshot.{Kept, with_content, of_head, loaded_log, kept_of, IsLoaded}
+use Rattle.replica_machine.specs.Snapshot.{standing_reading, standings_octets, seven_reading, seven_of, seven, standing_from_node, head_octets, head_reading}
+use Rattle.replica_machine.specs.Snapshot.{Kept, kept_after, with_content, of_head, loaded_log, kept_of, IsLoaded}
 use Rattle.replica_machine.proofs.Applying.{state_behind}
 
 -- ---- what is written is read, whatever follows
@@ -136,18 +136,18 @@ module _ {B : Type 0} where
   rest_given : (e : Entry B) (log : List (Entry B)) → AreGiven (e ∷ log) → AreGiven log
   rest_given e log given = All-tail (λ (x : Entry B). is_given_entry x ≡ true) e log given
 
-  kept_after : (n : ℕ) (s : Standing) (e : Entry B) → is_kept s ≡ true → is_given_entry e ≡ true → is_kept (standing_after n s e) ≡ true
-  kept_after n s Noop kept given = kept
-  kept_after n s (Boot k b) kept given =
+  kept_next : (n : ℕ) (s : Standing) (e : Entry B) → is_kept s ≡ true → is_given_entry e ≡ true → is_kept (standing_after n s e) ≡ true
+  kept_next n s Noop kept given = kept
+  kept_next n s (Boot k b) kept given =
       cond_both (eqb k n && is_new_boot s b) (Live b 0) s (λ t. is_kept t ≡ true)
       (λ _. and_from (is_number b) true (and_parts (is_node k) (is_number b) given).1 refl) (λ _. kept)
-  kept_after n s (Lost k b) kept given = cond_both (eqb k n && is_live s b) (gone s) s (λ t. is_kept t ≡ true) (λ _. ends s kept) (λ _. kept)
+  kept_next n s (Lost k b) kept given = cond_both (eqb k n && is_live s b) (gone s) s (λ t. is_kept t ≡ true) (λ _. ends s kept) (λ _. kept)
     where
       ends : (t : Standing) → is_kept t ≡ true → is_kept (gone t) ≡ true
       ends Unknown h = refl
       ends (Live c taken) h = (and_parts (is_number c) (leb taken 281474976710655) h).0
       ends (Gone c) h = h
-  kept_after n s (Item k b q t x) kept given =
+  kept_next n s (Item k b q t x) kept given =
       let p = and_parts (is_node k && (is_number b && leb 1 t)) (is_number q) given in
       let o = and_parts (is_node k) (is_number b && leb 1 t) p.0 in
       cond_both (eqb k n && is_next s b q) (Live b q) s (λ t. is_kept t ≡ true)
@@ -156,7 +156,7 @@ module _ {B : Type 0} where
 
   kept_from : (n : ℕ) (s : Standing) (log : List (Entry B)) → is_kept s ≡ true → AreGiven log → is_kept (standing_from n s log) ≡ true
   kept_from n s [] kept given = kept
-  kept_from n s (e ∷ log) kept given = kept_from n (standing_after n s e) log (kept_after n s e kept (first_given e log given)) (rest_given e log given)
+  kept_from n s (e ∷ log) kept given = kept_from n (standing_after n s e) log (kept_next n s e kept (first_given e log given)) (rest_given e log given)
 
   unknown_after : (n : ℕ) (e : Entry B) → is_node n ≡ false → is_given_entry e ≡ true → standing_after n Unknown e ≡ Unknown
   unknown_after n Noop none given = refl
@@ -182,32 +182,32 @@ module _ {B : Type 0} where
       none : ◌≡◌ {A = Option ℕ} (Some b) None → ⊥
       none e = cc
 
--- ---- the standings of nodes 1 to 7 in a roll
+-- ---- the standings of nodes 1 to 7
 
-abbrev from_node : List Standing → ℕ → ℕ → List Standing
-from_node roll first zero = []
-from_node roll first (suc count) = standing_in roll first ∷ from_node roll (first + 1) count
+abbrev from_node : (ℕ → Standing) → ℕ → ℕ → List Standing
+from_node stands first zero = []
+from_node stands first (suc count) = stands first ∷ from_node stands (first + 1) count
 
 above : (first n : ℕ) → first ≤ n → (first ≡ n → ⊥) → first + 1 ≤ n
 above first n l differ = elim (leb_tells n first) [ inl a ↦ absurd (differ (let u = a.1 in omega arith)) | inr b ↦ (let u = b.1 in omega arith) ]
 
-named_in : (roll : List Standing) (first count n : ℕ) → first ≤ n → n < first + count
-    → standing_from_node first n (from_node roll first count) ≡ standing_in roll n
-named_in roll first zero n l h = absurd (omega arith)
-named_in roll first (suc count) n l h = elim (cases_Bool (eqb first n)) [
-  | inl t ↦ cond-true (eqb first n) (standing_in roll first) (standing_from_node (first + 1) n (from_node roll (first + 1) count)) t
-      ∙ ap (λ k. standing_in roll k) (eqb-true first n t)
-  | inr f ↦ cond-false (eqb first n) (standing_in roll first) (standing_from_node (first + 1) n (from_node roll (first + 1) count)) f
-      ∙ named_in roll (first + 1) count n (above first n l (eqb-false first n f)) (omega arith)
+named_in : (stands : ℕ → Standing) (first count n : ℕ) → first ≤ n → n < first + count
+    → standing_from_node first n (from_node stands first count) ≡ stands n
+named_in stands first zero n l h = absurd (omega arith)
+named_in stands first (suc count) n l h = elim (cases_Bool (eqb first n)) [
+  | inl t ↦ cond-true (eqb first n) (stands first) (standing_from_node (first + 1) n (from_node stands (first + 1) count)) t
+      ∙ ap stands (eqb-true first n t)
+  | inr f ↦ cond-false (eqb first n) (stands first) (standing_from_node (first + 1) n (from_node stands (first + 1) count)) f
+      ∙ named_in stands (first + 1) count n (above first n l (eqb-false first n f)) (omega arith)
 ]
 
-named_out : (roll : List Standing) (first count n : ℕ) → (n < first) ⊎ (first + count ≤ n)
-    → standing_from_node first n (from_node roll first count) ≡ Unknown
-named_out roll first zero n h = refl
-named_out roll first (suc count) n h =
-    cond-false (eqb first n) (standing_in roll first) (standing_from_node (first + 1) n (from_node roll (first + 1) count))
+named_out : (stands : ℕ → Standing) (first count n : ℕ) → (n < first) ⊎ (first + count ≤ n)
+    → standing_from_node first n (from_node stands first count) ≡ Unknown
+named_out stands first zero n h = refl
+named_out stands first (suc count) n h =
+    cond-false (eqb first n) (stands first) (standing_from_node (first + 1) n (from_node stands (first + 1) count))
     (ne_eqb first n (λ e. elim h [ inl a ↦ omega arith | inr b ↦ omega arith ]))
-    ∙ named_out roll (first + 1) count n (elim h [ inl a ↦ inl (omega arith) | inr b ↦ inr (omega arith) ])
+    ∙ named_out stands (first + 1) count n (elim h [ inl a ↦ inl (omega arith) | inr b ↦ inr (omega arith) ])
 
 node_within : (n : ℕ) → is_node n ≡ true → (1 ≤ n) × (n < 8)
 node_within n h = let p = and_parts (leb 1 n) (leb n 7) h in (leb-true 1 n p.0, (let l = leb-true n 7 p.1 in omega arith))
@@ -237,6 +237,14 @@ named_by_one (a ∷ b ∷ c ∷ d ∷ e ∷ []) n h = absurd (omega arith)
 named_by_one (a ∷ b ∷ c ∷ d ∷ e ∷ f ∷ []) n h = absurd (omega arith)
 named_by_one (a ∷ b ∷ c ∷ d ∷ e ∷ f ∷ g ∷ k ∷ rest) n h = absurd (omega arith)
 
+-- where each node stands after entries that are ones, by the standings of nodes 1 to 7
+named : {B : Type 0} (stands : ℕ → Standing) (log : List (Entry B)) (n : ℕ) → AreGiven log → (is_node n ≡ true → stands n ≡ standing n log)
+    → standing_from_node 1 n (seven_of stands) ≡ standing n log
+named stands log n given are = elim (cases_Bool (is_node n)) [
+  | inl t ↦ named_in stands 1 7 n (node_within n t).0 (node_within n t).1 ∙ are t
+  | inr f ↦ named_out stands 1 7 n (node_without n f) ∙ sym (unknown_from n log f given)
+]
+
 -- ---- a log that is made of what is kept of another stands for the same one
 
 module _ {B S Y M : Type 0} (steps : Steps B S Y) (content : M → S) where
@@ -250,10 +258,34 @@ module _ {B S Y M : Type 0} (steps : Steps B S Y) (content : M → S) where
         below = length-append under old.applied ∙ ap (λ n. n + length old.applied) stands.below ∙ sym loaded.floor;
         stands = subst (λ l. IsAt steps content first l new.roll new.machine) (sym all) (
           loaded.machine ∙ stands.stands.0,
-          λ n within. loaded.roll n within ∙ elim (cases_Bool (is_node n)) [
-            | inl t ↦ named_in old.roll 1 7 n (node_within n t).0 (node_within n t).1 ∙ stands.stands.1 n within
-            | inr f ↦ named_out old.roll 1 7 n (node_without n f) ∙ sym (unknown_from n whole f given)
-          ],
+          λ n within. loaded.roll n within ∙ named (standing_in old.roll) whole n given (λ _. stands.stands.1 n within),
+        );
+      }
+
+  -- what is kept of a log is what is kept of the whole one that it stands for
+  pub kept_whole : (first : S) (under : List (Entry B)) (log : LogState B M) → IsLogOf steps content first under log
+      → kept_of content log ≡ kept_after (machine_from steps first) (under ++ log.applied)
+  kept_whole first under log stands =
+      let whole = under ++ log.applied in
+      let floor : length_in log ≡ length whole = sym (length-append under log.applied ∙ ap (λ n. n + length log.applied) stands.below) in
+      let at : (n : ℕ) → n < 256 → standing_in log.roll n ≡ standing n whole = stands.stands.1 in
+      λ i. record {
+        floor = floor i;
+        standings =
+            at 1 (lit< tt) i ∷ at 2 (lit< tt) i ∷ at 3 (lit< tt) i ∷ at 4 (lit< tt) i ∷ at 5 (lit< tt) i ∷ at 6 (lit< tt) i ∷ at 7 (lit< tt) i ∷ [];
+        content = stands.stands.0 i;
+      }
+
+  -- and a log that is made of it stands for that one
+  pub loaded_whole : (first : S) (under : List (Entry B)) (log : LogState B M) → AreGiven under
+      → IsLoaded content (kept_after (machine_from steps first) under) log → IsLogOf steps content first under log
+  loaded_whole first under log given loaded =
+      let all : under ++ log.applied ≡ under = ap (λ l. under ++ l) loaded.applied ∙ append-nil under in
+      record {
+        below = sym loaded.floor;
+        stands = subst (λ l. IsAt steps content first l log.roll log.machine) (sym all) (
+          loaded.machine,
+          λ n within. loaded.roll n within ∙ named (standings under) under n given (λ _. refl),
         );
       }
 

@@ -1,17 +1,19 @@
 -- A log as octets: its length, where each node stands after it, and the machine's octets (docs/PROTOCOL.md, "Snapshots"). The entries are
 -- not kept.
-use Rattle.std.specs.Prelude.{◌≡◌, ℕ, ◌+◌, ◌<◌, false, ◌==◌, Option, Some, None, option_map, List, [], ◌∷◌, ◌++◌}
+use Rattle.std.specs.Prelude.{◌≡◌, ℕ, ◌+◌, ◌<◌, false, ◌==◌, Option, Some, None, option_map, List, [], ◌∷◌, ◌++◌, length}
 use Rattle.std.specs.Prelude.{Ok, Err, if◌then◌else◌}
 use Rattle.std.specs.Int.{bytes_high_first}
 use Rattle.command_codec.specs.declared.fault.CodecFault.TheVariants.{Range}
 use Rattle.command_codec.specs.declared.number.Form.{Form}
 use Rattle.command_codec.specs.Coder.{and_then}
 use Rattle.command_codec.specs.Number.{Reading, number_reading}
+use Rattle.paxos_packets.specs.declared.entry.Entry.{Entry}
 use Rattle.replica_machine.specs.declared.roll.Standing.{Standing}
 use Rattle.replica_machine.specs.declared.roll.Standing.TheVariants.{Unknown, Live, Gone}
 use Rattle.replica_machine.specs.declared.head.Head.{Head}
-use Rattle.replica_machine.specs.Roll.{standing_in}
+use Rattle.replica_machine.specs.Roll.{standing_in, standings}
 use Rattle.replica_machine.specs.Log.{LogState, length_in}
+use Rattle.replica_machine.specs.Replay.{Machine, state}
 
 -- ---- numbers, the highest octet first
 
@@ -70,11 +72,13 @@ seven_reading octets =
     and_then (standing_reading rest) (λ f rest.
     and_then (standing_reading rest) (λ g rest. Ok (a ∷ b ∷ c ∷ d ∷ e ∷ f ∷ g ∷ [], rest))))))))
 
--- those of nodes 1 to 7 in a roll
+-- where nodes 1 to 7 stand
+abbrev pub seven_of : (ℕ → Standing) → List Standing
+seven_of stands = stands 1 ∷ stands 2 ∷ stands 3 ∷ stands 4 ∷ stands 5 ∷ stands 6 ∷ stands 7 ∷ []
+
+-- those of a roll
 abbrev pub seven : List Standing → List Standing
-seven roll =
-    standing_in roll 1 ∷ standing_in roll 2 ∷ standing_in roll 3 ∷ standing_in roll 4 ∷ standing_in roll 5 ∷ standing_in roll 6
-    ∷ standing_in roll 7 ∷ []
+seven roll = seven_of (standing_in roll)
 
 -- the node's standing in a list that begins with the standing of node `first`
 abbrev pub standing_from_node : ℕ → ℕ → List Standing → Standing
@@ -104,6 +108,10 @@ pub record Kept (S : Type 0) : Type 0 where
   pub floor : ℕ
   pub standings : List Standing
   pub content : S
+
+-- the same of a log that the machine follows from its content at first
+abbrev pub kept_after : {B S Y : Type 0} → Machine B S Y → List (Entry B) → Kept S
+kept_after m log = record { floor = length log; standings = seven_of (standings log); content = state m log }
 
 abbrev pub with_content : {S : Type 0} → Head → Option S → Option (Kept S)
 with_content head content = option_map (λ c. record { floor = head.floor; standings = head.standings; content = c }) content

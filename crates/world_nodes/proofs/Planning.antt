@@ -1,21 +1,25 @@
 -- What one node does in an event, stated by what it adopts.
-use Rattle.std.proofs.Common.{◌≡◌, ℕ, Bool, true, false, not, ◌&&◌, eqb, refl, sym, ap, ◌∙◌, subst, [], ◌∷◌, ◌++◌, Option, Some, None}
+use Rattle.std.proofs.Common.{◌≡◌, ℕ, suc, Bool, true, false, not, ◌&&◌, eqb, refl, sym, ap, ◌∙◌, subst, List, [], ◌∷◌, ◌++◌, Option, Some, None}
 use Rattle.std.specs.Prelude.{is_some, nat_lt}
-use Rattle.std.proofs.lemmas.Bool.{cond_both, cond-false, and_parts}
+use Rattle.std.proofs.lemmas.Bool.{cond_both, cond-false, and_parts, eq-eqb}
+use Rattle.paxos_packets.specs.Snapshot.{Snapshot}
 use Rattle.paxos_packets.specs.declared.entry.Entry.{Entry}
+use Rattle.paxos_packets.specs.declared.rows.Change.{Change}
+use Rattle.paxos_learner.specs.Learner.{run_from}
 use Rattle.paxos_acceptor.specs.Acceptor as accepting
 use Rattle.paxos_node.specs.declared.event.Event.{Event}
-use Rattle.paxos_node.specs.declared.event.Event.TheVariants.{Take, Start, Suspect, Crash, Restart}
+use Rattle.paxos_node.specs.declared.event.Event.TheVariants.{Take, Start, Suspect, Cut, Crash, Restart}
 use Rattle.paxos_node.specs.declared.outcome.Outcome.{Outcome}
-use Rattle.paxos_planning.specs.Node.{NodeState, Plan}
+use Rattle.paxos_planning.specs.Node.{NodeState, Plan, log_length}
 use Rattle.paxos_planning.specs.Plan.{with_pending, begun}
 use Rattle.paxos_planning.specs.Proposals.{push}
-use Rattle.paxos_node.specs.Adopting.{adopted, stays_up}
-use Rattle.paxos_node.specs.Applying.{down, apply_all, settle}
+use Rattle.paxos_node.specs.Adopting.{adopted, stays_up, Planned}
+use Rattle.paxos_node.specs.Applying.{down, note, ends, go_down, apply_all, settle}
+use Rattle.paxos_node.specs.Snapshots.{may_cut}
 use Rattle.paxos_node.specs.Events.{takes, with_item, has_room, new_lost, suspected, new_item, suspected_by, made_by, is_round_refused, is_full_refused}
 use Rattle.paxos_planning.specs.Starting.{starts}
-use Rattle.paxos_node.specs.Events.{owner, possible, outcome_of}
-use Rattle.paxos_node.specs.Plans.{is_planned, plans}
+use Rattle.paxos_node.specs.Events.{owner, possible, on_event, outcome_of}
+use Rattle.paxos_node.specs.Plans.{is_planned, plans, unchanged}
 use Rattle.paxos_node.specs.Held.{Held}
 use Rattle.world_nodes.specs.declared.world_node.NodeStatus.{NodeStatus}
 use Rattle.world_nodes.specs.declared.world_node.NodeStatus.TheVariants.{Up, Down}
@@ -79,6 +83,7 @@ module _ {B : Type 0} (same : B → B → Bool) where
 -- what a node plans is possible at one that is up alone
 planned_up : {B : Type 0} (e : Event B) (x : NodeState B) → is_planned e ≡ true → possible e x ≡ true → x.up ≡ true
 planned_up (Take n t body) x p h = (and_parts x.up (nat_lt 0 t) h).0
+planned_up (Cut n s) x p h = (and_parts x.up (may_cut s x) h).0
 planned_up (Crash n) x p h = absurd (off p)
 planned_up (Restart n) x p h = absurd (off p)
 planned_up _ x p h = h
@@ -88,6 +93,38 @@ plans_up me e x h =
     let a = and_parts (eqb (owner e) me) (is_planned e && possible e x) h in
     let b = and_parts (is_planned e) (possible e x) a.1 in
     planned_up e x b.0 b.1
+
+-- a cut commits a snapshot if it is one, and nothing else does
+
+applied_change : {B : Type 0} (me : ℕ) (es : List (Entry B)) (t : Plan B) → (apply_all me es t).change ≡ t.change
+applied_change me [] t = refl
+applied_change me (e ∷ es) t =
+    cond_both (ends me t.node e) (go_down (note e t)) (apply_all me es (note e t)) (λ u. u.change ≡ t.change) (λ _. refl)
+    (λ _. applied_change me es (note e t))
+
+settled_change : {B : Type 0} (me : ℕ) (t : Plan B) → (settle me t).change ≡ t.change
+settled_change me t = applied_change me (run_from (suc (log_length t.node)) t.node.learner.learned) t
+
+module _ {B : Type 0} (same : B → B → Bool) (me members log : ℕ) (x : NodeState B) (o : Outcome B) (up : x.up ≡ true) where
+  cuts : (s : Option Snapshot) → plans me (Cut me s) x ≡ may_cut s x
+  cuts s = ap (λ b. b && (x.up && may_cut s x)) (eq-eqb me me refl) ∙ ap (λ b. b && may_cut s x) up
+
+  planned_commits : (s : Option Snapshot) → may_cut s x ≡ true → Planned same members (Cut me s) x o → is_some o.change.snapshot ≡ true
+  planned_commits None may planned = absurd (off may)
+  planned_commits (Some s) may planned =
+      ap (λ (c : Change B). is_some c.snapshot)
+      (planned.change ∙ settled_change me (on_event same members (Cut me (Some s)) (begun x)))
+
+  module _ (s : Option Snapshot) (planned : plans me (Cut me s) x ≡ true → Planned same members (Cut me s) x o) where
+    pub cuts_so : (plans me (Cut me s) x ≡ false → o ≡ unchanged log) → is_some o.change.snapshot ≡ may_cut s x
+    cuts_so nothing = go (may_cut s x) refl
+      where
+        go : (b : Bool) → may_cut s x ≡ b → is_some o.change.snapshot ≡ b
+        go true may = planned_commits s may (planned (cuts s ∙ may))
+        go false may = ap (λ (p : Outcome B). is_some p.change.snapshot) (nothing (cuts s ∙ may))
+
+    pub cut_planned : may_cut s x ≡ true → Planned same members (Cut me s) x o
+    cut_planned may = planned (cuts s ∙ may)
 
 -- a node that adopts, and is down then, has its rows alone
 

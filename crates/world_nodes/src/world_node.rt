@@ -6,12 +6,15 @@ ghost use Rattle.paxos_node.specs.Applying.{down, started};
 ghost use Rattle.paxos_node.specs.Events.{outcome_of, made_by};
 ghost use Rattle.paxos_node.specs.Held.{HasRoom};
 ghost use Rattle.paxos_node.specs.Plans.{plans};
-ghost use Rattle.paxos_planning.specs.Node.{log_length};
+ghost use Rattle.paxos_node.specs.declared.event.Event.TheVariants.{Cut};
+ghost use Rattle.paxos_node.specs.Snapshots.{may_cut};
+ghost use Rattle.paxos_packets.specs.Snapshot.{snapshot_of};
+ghost use Rattle.paxos_planning.specs.Node.{told_length};
 ghost use Rattle.paxos_planning.specs.Plan.{begun};
 ghost use Rattle.world_nodes.specs.Nodes.{node_in, node_of, went_down, made_in, IsOfMember, HasRoomIn, IsAtRest};
 
 use paxos_node::{Event, Node, NodeFault, Outcome, Packets};
-use paxos_packets::{Body, Entries, Members, Memory, Rows};
+use paxos_packets::{Body, Entries, Members, Memory, Rows, Snapshot};
 use std::alloc::Global;
 use std::marker::Model;
 use std::mem;
@@ -75,14 +78,24 @@ impl<B> WorldNode<B> {
         }
     }
 
-    /// Returns how many entries its node has applied, or 0 if it is down. Does not allocate.
+    /// Returns the length of its node's log, or 0 if that is down. Does not allocate.
     pub fn applied(&self) -> u64
-        ensures length { result ≡ log_length (node_of self.now) }
+        ensures length { result ≡ told_length (node_of self.now) }
         ensures within { result < 2 ^ 40 }
     {
         match &self.status {
             NodeStatus::Up(node) => node.applied(),
             NodeStatus::Down(_) => 0,
+        }
+    }
+
+    /// Returns the snapshot that its node rests on, if any, also if that is down. Does not allocate.
+    pub fn snapshot(&self) -> Option<&Snapshot>
+        ensures { option_copied result ≡ (node_of self.now).rows.snapshot }
+    {
+        match &self.status {
+            NodeStatus::Up(node) => node.snapshot(),
+            NodeStatus::Down(rows) => rows.snapshot.as_ref(),
         }
     }
 
@@ -155,6 +168,21 @@ impl<B: Body> WorldNode<B> {
         }
     }
 
+    /// Returns what it makes of its node to rest on these octets, which are a snapshot of its log, or `None` if they are none, or if nothing
+    /// is applied above the floor.
+    pub fn plan_cut(&self, octets: &[u8]) -> Result<Option<Outcome<B>>, Memory>
+        requires up { (node_of self.now).up ≡ true }
+        ensures planned { IfOk result (λ plan. IfSome plan
+            (λ outcome. Planned B.same self.now.members (Cut self.now.me (snapshot_of octets.now)) (node_of self.now) outcome)) }
+        ensures refused { IfOk result (λ plan. is_some plan ≡ may_cut (snapshot_of octets.now) (node_of self.now)) }
+        ensures fits { IfOk result (λ plan. IfSome plan (λ outcome. Fits self.now.me self.now.members outcome (node_of self.now))) }
+    {
+        match &self.status {
+            NodeStatus::Up(node) => plan_cut(node, octets),
+            NodeStatus::Down(_) => unreachable!(),
+        }
+    }
+
     /// Reserves all memory that adopting the outcome needs. The node stays as it was, with `Memory` too.
     pub fn make_room(&mut self, outcome: &Outcome<B>) -> Result<(), Memory>
         requires up { (node_of self.old).up ≡ true }
@@ -209,6 +237,23 @@ fn plan<B: Body>(node: &Node<B>, event: &Event<B>) -> Result<Option<Outcome<B>>,
         Err(NodeFault::Disagree) => unreachable!(),
         Err(NodeFault::Memory) => Err(Memory),
     }
+}
+
+// Returns what it makes of the node to rest on these octets, or `None` if they are no snapshot of its log.
+fn plan_cut<B: Body>(node: &Node<B>, octets: &[u8]) -> Result<Option<Outcome<B>>, Memory>
+    requires { node.now.state.up ≡ true }
+    ensures planned { IfOk result (λ plan. IfSome plan
+        (λ outcome. Planned B.same node.now.members (Cut node.now.me (snapshot_of octets.now)) node.now.state outcome)) }
+    ensures refused { IfOk result (λ plan. is_some plan ≡ may_cut (snapshot_of octets.now) node.now.state) }
+    ensures fits { IfOk result (λ plan. IfSome plan (λ outcome. Fits node.now.me node.now.members outcome node.now.state)) }
+{
+    let Ok(outcome) = node.plan_cut(octets) else {
+        return Err(Memory);
+    };
+    if outcome.change.snapshot.is_none() {
+        return Ok(None);
+    }
+    Ok(Some(outcome))
 }
 
 // Reserves all memory that adopting the outcome at the node needs.
