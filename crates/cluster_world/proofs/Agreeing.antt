@@ -3,7 +3,7 @@ use Rattle.std.proofs.Common.{◌≡◌, ◌⊎◌, inl, inr, ⊎_elim, ℕ, zer
 use Rattle.std.specs.Prelude.{slice_get}
 use Rattle.cluster_world.proofs.Invariant.{IsChosen, promises}
 use Rattle.cluster_world.proofs.OneChosen.{chosen_one}
-use Rattle.cluster_world.proofs.EveryWorld.{event_goes, world_ok, all_stay, play_on}
+use Rattle.cluster_world.proofs.EveryWorld.{event_goes, world_ok, whole_logged, all_stay, play_on}
 use Rattle.cluster_world.specs.Has.{Has}
 use Rattle.paxos_packets.specs.declared.entry.Entry.{Entry}
 use Rattle.paxos_packets.specs.declared.packet.Packet.{Packet}
@@ -62,7 +62,7 @@ module _ {B : Type 0} (same : B → B → Bool) (equal : IsEquality same) where
   pub log_is_chosen : LogIsChosen B same
   log_is_chosen members l events k i e h =
       let w = played same members events in
-      chosen_out members w.sent (suc i) e (((world_ok same equal members (omega arith) events).log k).at i e h)
+      chosen_out members w.sent (suc i) e ((whole_logged same equal members (omega arith) w k (world_ok same equal members (omega arith) events)).at i e h)
 
   -- what was chosen stays chosen
   pub chosen_on : (members : ℕ) (early later : List (Event B)) (slot : ℕ) (e : Entry B)
@@ -101,10 +101,10 @@ module _ {B : Type 0} (same : B → B → Bool) (equal : IsEquality same) where
           → slice_get (log_of (played same members (early ++ later)) k) i ≡ Some e → d ≡ e
       agree i d e a b =
           one members l (early ++ later) (suc i) d e
-          (chosen_on members early later (suc i) d (((world_ok same equal members many early).log j).at i d a))
-          (((world_ok same equal members many (early ++ later)).log k).at i e b)
+          (chosen_on members early later (suc i) d ((whole_logged same equal members many (played same members early) j (world_ok same equal members many early)).at i d a))
+          ((whole_logged same equal members many (played same members (early ++ later)) k (world_ok same equal members many (early ++ later))).at i e b)
 
   pub never_disagrees : NeverDisagrees B same
   never_disagrees members l events e s p =
       let many : 2 ≤ members = omega arith in
-      (event_goes same equal members many (played same members events) e (world_ok same equal members many events) s).goes.agrees refl
+      (event_goes same equal members many (played same members events) e (world_ok same equal members many events) s p).goes.agrees refl

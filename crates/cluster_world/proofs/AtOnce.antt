@@ -1,17 +1,18 @@
 -- Applying at an event's end is applying at once: a vote of its own for a new proposal teaches a node nothing.
 use Rattle.std.proofs.Common.{◌≡◌, ⊎_elim, ℕ, zero, suc, ◌+◌, ◌*◌, ◌<◌, ◌≤◌, Bool, true, false, eqb, refl, sym, ap, ◌∙◌, subst, arith}
-use Rattle.std.proofs.Common.{List, [], ◌∷◌, ◌++◌, length}
-use Rattle.std.specs.Prelude.{nat_lt, if◌then◌else◌}
-use Rattle.std.proofs.lemmas.Bool.{cond_both, cond-false, cases_Bool, ltb-true, ne_eqb, lt-ltb, eqb-true}
+use Rattle.std.proofs.Common.{List, [], ◌∷◌, ◌++◌, length, Option, Some, None, ◌&&◌}
+use Rattle.std.specs.Prelude.{nat_lt, ◌==◌, if◌then◌else◌}
+use Rattle.std.proofs.lemmas.Bool.{cond_both, cond-false, cases_Bool, ltb-true, ltb-false, ne_eqb, lt-ltb, eqb-true, and_parts}
 use Rattle.cluster_world.proofs.Invariant.{VoteOf, AllSafe, vote, promises}
 use Rattle.cluster_world.proofs.Growth.{all_safe_grows}
 use Rattle.cluster_world.proofs.WithNode.{with_node}
 use Rattle.cluster_world.proofs.Learner.{learner_of, heard_alone}
 use Rattle.cluster_world.proofs.Proposals.{State, leads, propose_made, propose_full, propose_path, proposed_role}
 use Rattle.cluster_world.proofs.Events.{mine}
-use Rattle.cluster_world.proofs.Settling.{longer}
+use Rattle.cluster_world.proofs.Settling.{one_longer}
 use Rattle.paxos_packets.specs.Members.{count_nodes, is_majority, is_in}
 use Rattle.paxos_packets.specs.Packet.{to_others}
+use Rattle.paxos_packets.specs.Snapshot.{Snapshot, floor_in}
 use Rattle.paxos_packets.specs.declared.ballot.Ballot.{Ballot}
 use Rattle.paxos_packets.specs.declared.entry.Entry.{Entry}
 use Rattle.paxos_packets.specs.declared.packet.Packet.{Packet}
@@ -21,11 +22,14 @@ use Rattle.paxos_proposer.specs.Role.{Role, Idle, Preparing, Leading}
 use Rattle.paxos_proposer.specs.Proposer.{slot_end, next_vote}
 use Rattle.paxos_learner.specs.declared.learned.LearnedEntry.{LearnedEntry}
 use Rattle.paxos_learner.specs.Tallies.{place_of, nodes_heard}
-use Rattle.paxos_learner.specs.Learner.{LearnerState, hears, has_most, learn, run_with, run_from}
+use Rattle.paxos_learner.specs.Learned.{is_closed, learned_above}
+use Rattle.paxos_learner.specs.Learner.{LearnerState, hears, has_most, learn, learn_chosen, run_with, run_from}
 use Rattle.paxos_planning.specs.Node.{NodeState, Plan, log_length}
 use Rattle.paxos_planning.specs.Plan.{send, vote as vote_at_end, count as count_at_end, cast as cast_at_end}
 use Rattle.paxos_planning.specs.Proposals.{offer, propose_as as propose_as_at_end, propose as propose_at_end, propose_all as propose_all_at_end}
 use Rattle.paxos_node.specs.Applying.{note, ends, go_down, apply_all, settle}
+use Rattle.paxos_node.specs.Snapshots.{is_head_of, may_cut, rest_on, on_cut}
+use Rattle.replica_machine.specs.Snapshot.{head_at}
 use Rattle.cluster_world.specs.AtOnce as now
 use Rattle.paxos_packets.specs.Body.{IsEquality}
 
@@ -45,6 +49,28 @@ passed f fs s l =
   where
     apart : f.slot ≡ s → ⊥
     apart e = omega arith
+
+-- what is not above a floor is passed over
+pub run_above : {B : Type 0} (floor : ℕ) (fs : List (LearnedEntry B)) (s : ℕ) → floor < s
+    → run_from s (learned_above floor fs) ≡ run_from s fs
+run_above floor [] s l = refl
+run_above {B} floor (f ∷ fs) s l = go (nat_lt floor f.slot) refl (λ k i. run_above floor fs k i)
+  where
+    low : f.slot ≤ floor → f.slot < s
+    low h = omega arith
+
+    more : floor < suc s
+    more = omega arith
+
+    kept : (a : Bool) → ((k : ℕ) → floor < k → run_from k (learned_above floor fs) ≡ run_from k fs)
+        → run_from (if a then suc s else s) (learned_above floor fs) ≡ run_from (if a then suc s else s) fs
+    kept true rest = rest (suc s) more
+    kept false rest = rest s l
+
+    go : (b : Bool) → nat_lt floor f.slot ≡ b → ((k : ℕ) → floor < k → run_from k (learned_above floor fs) ≡ run_from k fs)
+        → run_from s (if b then f ∷ learned_above floor fs else learned_above floor fs) ≡ run_from s (f ∷ fs)
+    go true e rest = ap (λ es. run_with (eqb f.slot s) (nat_lt f.slot s) f.entry es) (kept (eqb f.slot s) rest)
+    go false e rest = rest s l ∙ sym (passed f fs s (low (ltb-false floor f.slot e)))
 
 run_tail : {B : Type 0} (fs : List (LearnedEntry B)) (s : ℕ) (e : Entry B) (es : List (Entry B)) → run_from s fs ≡ e ∷ es
     → run_from (suc s) fs ≡ es
@@ -75,11 +101,32 @@ rest_applied n [] o h = h
 rest_applied n (e ∷ es) o h =
     cond_both (ends n o.node e) (go_down (note e o)) (apply_all n es (note e o)) (λ z. AtRest z.node) (λ t. refl)
     (λ t. rest_applied n es (note e o)
-    (ap (λ k. run_from (suc k) o.node.learner.learned) (longer o.node.applied e)
+    (ap (λ k. run_from (suc k) o.node.learner.learned) (one_longer (floor_in o.node.rows.snapshot) o.node.applied e)
     ∙ run_tail o.node.learner.learned (suc (log_length o.node)) e es h))
 
 pub rest_settled : {B : Type 0} (n : ℕ) (o : Plan B) → AtRest (settle n o).node
 rest_settled n o = rest_applied n (run_from (suc (log_length o.node)) o.node.learner.learned) o refl
+
+-- nor after a cut
+pub cut_rest : {B : Type 0} (n : ℕ) (t : Plan B) (o : Option Snapshot) → may_cut o t.node ≡ true → AtRest t.node → settle n (on_cut o t) ≡ on_cut o t
+cut_rest n t None may rest = settle_rest n t rest
+cut_rest n t (Some s) may rest =
+    settle_rest n (rest_on false s t)
+    (ap (λ k. run_from (suc k) (learned_above s.floor t.node.learner.learned)) (none_more s.floor)
+    ∙ (run_above s.floor t.node.learner.learned (suc s.floor) (past s.floor)
+    ∙ (ap (λ k. run_from (suc k) t.node.learner.learned) is ∙ rest)))
+  where
+    none_more : (k : ℕ) → k + 0 ≡ k
+    none_more k = omega arith
+
+    past : (k : ℕ) → k < suc k
+    past k = omega arith
+
+    is : s.floor ≡ log_length t.node
+    is =
+        eqb-true s.floor (log_length t.node)
+        (and_parts (s.floor == log_length t.node) (is_head_of t.node (head_at s.octets))
+        (and_parts (nat_lt 0 (length t.node.applied)) ((s.floor == log_length t.node) && is_head_of t.node (head_at s.octets)) may).1).0
 
 -- packets may be sent before or after it
 pub apply_send : {B : Type 0} (n : ℕ) (ps : List (Packet B)) (es : List (Entry B)) (o : Plan B)
@@ -95,15 +142,16 @@ apply_send {B} n ps (e ∷ es) o = go (ends n o.node e) (apply_send n ps es (not
 
 -- a step that teaches nothing
 pub record Calm {B : Type 0} (t u : Plan B) : Type 0 where
+  pub base : u.node.rows.snapshot ≡ t.node.rows.snapshot
   pub learned : u.node.learner.learned ≡ t.node.learner.learned
   pub log : u.node.applied ≡ t.node.applied
   pub pending : u.node.pending ≡ t.node.pending
 
 pub calm_here : {B : Type 0} (t : Plan B) → Calm t t
-calm_here t = record { learned = refl; log = refl; pending = refl }
+calm_here t = record { base = refl; learned = refl; log = refl; pending = refl }
 
 pub calm_rest : {B : Type 0} {t u : Plan B} → Calm t u → AtRest t.node → AtRest u.node
-calm_rest c r = (λ i. run_from (suc (length (c.log i))) (c.learned i)) ∙ r
+calm_rest c r = (λ i. run_from (suc (floor_in (c.base i) + length (c.log i))) (c.learned i)) ∙ r
 
 -- it is the same at once and at the end
 pub record Agrees {B : Type 0} (t u v : Plan B) : Type 0 where
@@ -119,6 +167,7 @@ then_agrees go a b =
       is = ap go a.is ∙ b.is;
       calm =
           record {
+            base = b.calm.base ∙ a.calm.base;
             learned = b.calm.learned ∙ a.calm.learned;
             log = b.calm.log ∙ a.calm.log;
             pending = b.calm.pending ∙ a.calm.pending;
@@ -172,8 +221,11 @@ module _ {B : Type 0} (same : B → B → Bool) (equal : IsEquality same) (membe
       → Calm t (cast_at_end same members n (next_vote b next e) (offer members n b next table e t))
   own_calm t b next table e inv is =
       record {
-        learned = ap (λ (l : LearnerState B). l.learned) (cond-false (has_most members v (hears n v t.node.learner))
-            (learn next e (hears n v t.node.learner)) (hears n v t.node.learner) few);
+        base = refl;
+        learned = cond_both (is_closed t.node.learner.floor next) t.node.learner (learn_chosen members v (hears n v t.node.learner))
+            (λ (l : LearnerState B). l.learned ≡ t.node.learner.learned) (λ c. refl)
+            (λ c. ap (λ (l : LearnerState B). l.learned) (cond-false (has_most members v (hears n v t.node.learner))
+            (learn next e (hears n v t.node.learner)) (hears n v t.node.learner) few));
         log = refl;
         pending = refl;
       }

@@ -1,33 +1,34 @@
 -- A machine stands where its node stands, event by event.
-use Rattle.std.proofs.Common.{◌≡◌, ⊎_elim, ◌<◌, ◌^◌, ℕ, suc, ◌+◌, Bool, true, false, not, ◌&&◌, eqb, refl, sym, ap, ◌∙◌, subst, arith}
-use Rattle.std.proofs.Common.{List, [], ◌∷◌, ◌++◌, length, Option, Some, None, replicate, zero}
-use Rattle.std.specs.Prelude.{nat_lt, Result, Ok, Err, OnOk, OnErr, IfSome, IsSomeAnd}
-use Rattle.std.proofs.lemmas.Bool.{and_from, and_parts, eq-eqb, cond_both}
+use Rattle.std.proofs.Common.{◌≡◌, ⊎_elim, ◌<◌, ◌^◌, ℕ, suc, ◌+◌, Bool, true, false, not, refl, sym, ap, ◌∙◌, subst, arith}
+use Rattle.std.proofs.Common.{List, [], ◌∷◌, ◌++◌, length, Option, None}
+use Rattle.std.specs.Prelude.{nat_lt, Result, Ok, Err, OnOk, OnErr, IfSome, is_some}
+use Rattle.std.proofs.lemmas.Bool.{and_parts}
 use Rattle.std.proofs.lemmas.List.{append-nil}
 use Rattle.paxos_packets.specs.Rows.{last_boot, raised}
+use Rattle.paxos_packets.specs.Snapshot.{Snapshot}
 use Rattle.paxos_packets.specs.declared.packet.Packet.{Packet}
 use Rattle.paxos_packets.specs.declared.entry.Entry.TheVariants.{Boot}
 use Rattle.paxos_packets.specs.declared.transport.Transport.{Transport}
-use Rattle.paxos_node.specs.declared.event.Event.TheVariants.{Crash, Restart}
+use Rattle.paxos_node.specs.declared.event.Event.TheVariants.{Cut, Crash, Restart}
 use Rattle.paxos_packets.specs.declared.entry.Entry.{Entry}
 use Rattle.paxos_node.specs.declared.event.Event.{Event}
 use Rattle.paxos_node.specs.Applying.{down, started}
-use Rattle.paxos_node.specs.Events.{owner, possible, outcome_of}
-use Rattle.paxos_node.specs.Plans.{is_planned}
+use Rattle.paxos_node.specs.Events.{owner, packet_in, possible, outcome_of}
 use Rattle.paxos_planning.specs.Node.{NodeState, Plan}
 use Rattle.world_nodes.proofs.Planning.{plans_up}
 use Rattle.command_codec.specs.Number.{number_reading}
-use Rattle.replica_machine.specs.declared.roll.Standing.TheVariants.{Unknown}
 use Rattle.replica_machine.specs.Given.{AreGiven}
 use Rattle.replica_machine.specs.Log.{LogState, IsLogOf, length_in, steps_of}
 use Rattle.replica_machine.specs.Replay.{Machine}
-use Rattle.replica_machine.specs.Snapshot.{Kept, IsLoaded, kept_of, loaded_log, standing_from_node}
+use Rattle.replica_machine.specs.Snapshot.{kept_of, loaded_log}
 use Rattle.replica_follower.specs.Following.{Followed, Follows, handed_to}
 use Rattle.replica_follower.specs.Handed.{said_in}
-use Rattle.cluster_world.specs.Members.{MemberState, Moves, Unmoved, Happens, Rests, IsInBoot, IsLater}
+use Rattle.cluster_world.specs.Members.{MemberState, Moves, Unmoved, Goes, Happens, Rests, GoesOn, StaysThere}
+use Rattle.cluster_world.specs.MemberSnapshots.{is_carried, may_happen, base_of, above_of, log_from, under_from}
 use Rattle.cluster_world.specs.StandsAt.{HasLog, empty_kept, LoadsFirst}
 use Rattle.cluster_world.proofs.Attending.{nothing_to}
-use Rattle.cluster_world.proofs.Handing.{Ran, Began, event_cases}
+use Rattle.cluster_world.proofs.MemberEvents.{above_is, log_is, under_is, none_taken, plans_carried}
+use Rattle.cluster_world.proofs.Standing.{Ran, Began, OnFrom, event_cases}
 
 off : false ≡ true → ⊥
 off e = cc
@@ -35,10 +36,42 @@ off e = cc
 abbrev fault : {E : Type 0} → E → Result (Unit {0}) E
 fault e = Err e
 
-pub up_planned : {B : Type 0} (e : Event B) (x : NodeState B) → is_planned e ≡ true → possible e x ≡ true → x.up ≡ true
-up_planned e x d p =
-    plans_up (owner e) e x
-    (and_from (eqb (owner e) (owner e)) (is_planned e && possible e x) (eq-eqb (owner e) (owner e) refl) (and_from (is_planned e) (possible e x) d p))
+abbrev is_restart : {B : Type 0} → Event B → Bool
+is_restart (Restart n) = true
+is_restart _ = false
+
+pub no_restart : {B A C : Type 0} (e d : Event B) → e ≡ d → is_restart d ≡ false → (node : ℕ) → e ≡ Restart node → A → C
+no_restart e d is another node at a = absurd (off (sym another ∙ sym (ap (λ z. is_restart z) is) ∙ ap (λ z. is_restart z) at))
+
+pub no_restart_then : {B R E : Type 0} (A C : Type 0) (r : Result R E) (e d : Event B) → e ≡ d → is_restart d ≡ false
+    → OnOk r ((node : ℕ) → e ≡ Restart node → A → C)
+no_restart_then A C (Err x) e d is another = tt
+no_restart_then A C (Ok x) e d is another = no_restart e d is another
+
+abbrev is_cut : {B : Type 0} → Event B → Bool
+is_cut (Cut n s) = true
+is_cut _ = false
+
+pub no_cut : {B C : Type 0} (e d : Event B) → e ≡ d → is_cut d ≡ false → (node : ℕ) (snapshot : Option Snapshot) → e ≡ Cut node snapshot → C
+no_cut e d is another node snapshot at =
+    absurd (off (sym another ∙ sym (ap (λ z. is_cut z) is) ∙ ap (λ z. is_cut z) at))
+
+pub no_cut_then : {B R E : Type 0} (C : Type 0) (r : Result R E) (e d : Event B) → e ≡ d → is_cut d ≡ false
+    → OnOk r ((node : ℕ) (snapshot : Option Snapshot) → e ≡ Cut node snapshot → C)
+no_cut_then C (Err x) e d is another = tt
+no_cut_then C (Ok x) e d is another = no_cut e d is another
+
+pub cut_then : {B R E : Type 0} (P : Type 0) (e : Event B) (r : Result R E) → OnOk r P
+    → OnOk r ((node : ℕ) (snapshot : Option Snapshot) → e ≡ Cut node snapshot → P)
+cut_then P e (Err x) h = tt
+cut_then P e (Ok x) h = λ node snapshot at. h
+
+pub restart_then : {B R E : Type 0} (P : Type 0) (e : Event B) (r : Result R E) → OnOk r P → OnOk r ((node : ℕ) → e ≡ Restart node → P)
+restart_then P e (Err x) h = tt
+restart_then P e (Ok x) h = λ node at. h
+
+pub up_carried : {B : Type 0} (e : Event B) (x : NodeState B) → is_carried e ≡ true → may_happen e x ≡ true → x.up ≡ true
+up_carried e x c m = plans_up (owner e) e x (plans_carried (owner e) e x refl c m)
 
 -- a node whose log is that of its machine, and of one that is down
 
@@ -49,59 +82,35 @@ module _ {B : Type 0} (same : B → B → Bool) (members : ℕ) (e : Event B) (x
   abbrev pub o : Plan B
   o = outcome_of same members e x
 
-  pub log_ran : {M Y : Type 0} (g : Followed B M Y) → Ran same members e x → g.log.applied ≡ x.applied ++ o.applied → HasLog o.node g
-  log_ran g r h =
+  pub log_ran : {M Y : Type 0} (g : Followed B M Y) → Ran same members e x → is_carried e ≡ true → possible e x ≡ true
+      → g.log.applied ≡ above_of o.change.snapshot x.applied ++ o.applied → HasLog o.node g
+  log_ran g r carried can h =
       ⊎_elim
-      (λ (c : (o.node.up ≡ true) × (o.node.applied ≡ x.applied ++ o.applied) × (o.node.taken ≡ Rattle.cluster_world.proofs.Standing.acts_after e x)).
-      λ u. h ∙ sym c.1)
+      (λ (c : OnFrom same members e x). λ u.
+      h ∙ (ap (λ l. l ++ o.applied) (sym (above_is same members e x r.was carried can)) ∙ sym c.log))
       (λ (c : (o.node.up ≡ false) × (o.node.applied ≡ [])). log_down o.node g c.0)
       r.from.case
-
--- what comes later at a node
-
-pub later_same : {B : Type 0} (x : NodeState B) → IsLater x x
-later_same x = record { boots = omega arith; up = λ h. h.0 }
-
-pub later_then : {B : Type 0} (x y z : NodeState B) → IsLater x y → IsLater y z → IsLater x z
-later_then x y z a b =
-    record {
-      boots = let l = a.boots in let k = b.boots in omega (arith, l, k);
-      up = λ h. let l = a.boots in let k = b.boots in let s = h.1 in
-          let there : z.rows.boot ≡ y.rows.boot = omega (arith, l, k, s) in
-          let here : y.rows.boot ≡ x.rows.boot = omega (arith, l, k, s) in
-          a.up (b.up (h.0, there), here);
-    }
-
--- so is a node after an event
-pub later_event : {B : Type 0} (same : B → B → Bool) (members : ℕ) (e : Event B) (x : NodeState B) → possible e x ≡ true
-    → IsLater x (outcome_of same members e x).node
-later_event {B} same members e x p =
-    ⊎_elim
-    (λ (c : Ran same members e x). record { boots = (let s = c.from.boot_is in omega (arith, s)); up = λ h. c.was })
-    (λ (c : Began same members e x).
-    subst (λ (y : NodeState B). IsLater x y) (sym c.is)
-    (record { boots = omega arith; up = λ h. (let s = h.1 in absurd (omega (arith, s))) }))
-    (event_cases same members e x p)
 
 -- members in their events
 
 module _ {B M Y : Type 0} (same : B → B → Bool) where
   pub moved : {R E : Type 0} (r : Result R E) (e : Event B) (old new : MemberState B M Y) (sent later : List (Packet B)) (made more : List (Entry B))
-      → possible e old.node ≡ true → old.node.up ≡ true
+      → possible e old.node ≡ true → old.node.up ≡ true → is_carried e ≡ true
       → OnOk r (new.node ≡ (outcome_of same old.members e old.node).node)
       → OnOk r (later ≡ sent ++ (outcome_of same old.members e old.node).packets)
       → OnOk r (more ≡ made ++ Rattle.paxos_node.specs.Events.made_by same e old.node)
-      → OnOk r (new.machine.log.applied ≡ old.node.applied ++ (outcome_of same old.members e old.node).applied)
+      → OnOk r (new.machine.log.applied
+      ≡ above_of (outcome_of same old.members e old.node).change.snapshot old.node.applied ++ (outcome_of same old.members e old.node).applied)
       → OnOk r (Moves same e old new sent later made more)
-  moved (Err a) e old new sent later made more p u n s k l = tt
-  moved (Ok a) e old new sent later made more p u n s k l =
+  moved (Err a) e old new sent later made more p u d n s k l = tt
+  moved (Ok a) e old new sent later made more p u d n s k l =
       record {
         node = n;
         packets = s;
         made_is = k;
         log = ⊎_elim
             (λ (c : Ran same old.members e old.node).
-            subst (λ (y : NodeState B). HasLog y new.machine) (sym n) (log_ran same old.members e old.node new.machine c l))
+            subst (λ (y : NodeState B). HasLog y new.machine) (sym n) (log_ran same old.members e old.node new.machine c d p l))
             (λ (c : Began same old.members e old.node). absurd (off (sym c.was ∙ u)))
             (event_cases same old.members e old.node p);
       }
@@ -164,82 +173,118 @@ module _ {B M Y : Type 0} (same : B → B → Bool) where
 
 -- after a crash a node is down; after a restart it is in the next boot, or it is down as before
 
-pub crashed : {B : Type 0} (x y : NodeState B) {P : Type 0} → y ≡ down x.rows → IsInBoot x y → P
-crashed x y is h = absurd (off (sym (ap (λ z. z.up) is) ∙ h.0))
+pub crashed : {B : Type 0} (x y : NodeState B) {P : Type 0} → y ≡ down x.rows → StaysThere x y → P
+crashed x y is h = absurd (off (sym (ap (λ z. z.up) is) ∙ h.0.0))
 
 pub restarted : {B R E P : Type 0} (r : Result R E) (me : ℕ) (x y : NodeState B) → x.up ≡ false → OnOk r (y ≡ started me (raised x.rows))
-    → OnErr r (y ≡ x) → IsInBoot x y → P
+    → OnErr r (y ≡ x) → StaysThere x y → P
 restarted (Ok a) me x y d ok err h =
-    let s : suc x.rows.boot ≡ x.rows.boot = ap (λ z. z.rows.boot) (sym ok) ∙ h.1 in absurd (omega (arith, s))
-restarted (Err a) me x y d ok err h = absurd (off (sym d ∙ (ap (λ z. z.up) (sym err) ∙ h.0)))
+    let s : suc x.rows.boot ≡ x.rows.boot = ap (λ z. z.rows.boot) (sym ok) ∙ h.0.1 in absurd (omega (arith, s))
+restarted (Err a) me x y d ok err h = absurd (off (sym d ∙ (ap (λ z. z.up) (sym err) ∙ h.0.0)))
+
+-- a machine that is given up stays so where its node stays
+
+pub if_refused : {R E P : Type 0} (Q : Type 0) (r : Result R E) → OnErr r (P → Q) → P → OnErr r Q
+if_refused Q (Ok a) h p = tt
+if_refused Q (Err a) h p = h p
+
+pub stays_given_up : {B M Y R E P : Type 0} (same : B → B → Bool) (r : Result R E) (e : Event B) (old new : MemberState B M Y)
+    → possible e old.node ≡ true → old.node.up ≡ true → is_carried e ≡ true
+    → OnOk r (new.node ≡ (outcome_of same old.members e old.node).node)
+    → ((outcome_of same old.members e old.node).change.snapshot ≡ None → P) → OnErr r P → StaysThere old.node new.node → P
+stays_given_up same (Err a) e old new p u d ok kept back there = back
+stays_given_up same (Ok a) e old new p u d ok kept back there =
+    ⊎_elim
+    (λ (c : Ran same old.members e old.node).
+    kept (none_taken same old.members e old.node u d p c (subst (λ (y : NodeState _). StaysThere old.node y) ok there)))
+    (λ (c : Began same old.members e old.node). absurd (off (sym c.was ∙ u)))
+    (event_cases same old.members e old.node p)
+
+-- an event that is possible goes on so
+module _ {B M Y : Type 0} (same : B → B → Bool) where
+  pub goes_here : (e : Event B) (old new : MemberState B M Y) (sent later : List (Packet B)) (made more : List (Entry B))
+      → possible e old.node ≡ true → Moves same e old new sent later made more → Goes same e old new sent later made more
+  goes_here e old new sent later made more can moves = record { moves = λ _. moves; stays = λ never. absurd (off (sym never ∙ can)) }
+
+  pub goes : {R E : Type 0} (r : Result R E) (e : Event B) (old new : MemberState B M Y) (sent later : List (Packet B)) (made more : List (Entry B))
+      → possible e old.node ≡ true → OnOk r (Moves same e old new sent later made more) → OnOk r (Goes same e old new sent later made more)
+  goes (Err a) e old new sent later made more can moves = tt
+  goes (Ok a) e old new sent later made more can moves = goes_here e old new sent later made more can moves
 
 module _ {B M S Y : Type 0} (same : B → B → Bool) (content : M → S) (m : Machine B S Y) where
+  pub goes_on_here : (e : Event B) (under over : List (Entry B)) (old new : MemberState B M Y)
+      → possible e old.node ≡ true → Happens same content m e under over old new → GoesOn same content m e under over old new
+  goes_on_here e under over old new can happens = record { moves = λ _. happens; stays = λ never. absurd (off (sym never ∙ can)) }
+
+  pub goes_on : {R E : Type 0} (r : Result R E) (e : Event B) (under over : List (Entry B)) (old new : MemberState B M Y)
+      → possible e old.node ≡ true → OnOk r (Happens same content m e under over old new) → OnOk r (GoesOn same content m e under over old new)
+  goes_on (Err a) e under over old new can happens = tt
+  goes_on (Ok a) e under over old new can happens = goes_on_here e under over old new can happens
+
   -- nothing is applied, and nothing handed out
-  quiet : (e : Event B) (old new : MemberState B M Y) → (outcome_of same old.members e old.node).applied ≡ []
-      → new.machine.told ≡ old.machine.told → Follows content m [] new.machine → Happens same content m e old new
-  quiet e old new none told a =
+  pub quiet : (e : Event B) (under over : List (Entry B)) (old new : MemberState B M Y) → (outcome_of same old.members e old.node).applied ≡ []
+      → new.machine.told ≡ old.machine.told
+      → Follows content m
+      (under_from (is_some (packet_in e)) (outcome_of same old.members e old.node).change.snapshot under over old.node.applied) new.machine
+      → Happens same content m e under over old new
+  quiet e under over old new none told a =
+      let log = log_from (is_some (packet_in e)) (outcome_of same old.members e old.node).change.snapshot under over old.node.applied in
       record {
         handed = λ t. ap (λ u. said_in t u) told
             ∙ sym (ap (λ l. said_in t old.machine.told ++ l)
-            (ap (λ es. handed_to m t old.machine.node old.node.rows.boot old.node.applied es) none
-            ∙ nothing_to m old.machine.node t old.node.rows.boot old.node.applied)
+            (ap (λ es. handed_to m t old.machine.node old.node.rows.boot log es) none
+            ∙ nothing_to m old.machine.node t old.node.rows.boot log)
             ∙ append-nil (said_in t old.machine.told));
         follows = a;
       }
 
-  pub crash_happens : (e : Event B) (n : ℕ) (old new : MemberState B M Y) → e ≡ Crash n → new.machine ≡ old.machine
-      → Follows content m [] old.machine → Happens same content m e old new
-  crash_happens e n old new is f a =
-      subst (λ d. Happens same content m d old new) (sym is)
-      (quiet (Crash n) old new refl (ap (λ (g : Followed B M Y). g.told) f) (subst (λ g. Follows content m [] g) (sym f) a))
+  pub crash_happens : (e : Event B) (n : ℕ) (under over : List (Entry B)) (old new : MemberState B M Y) → e ≡ Crash n
+      → new.machine ≡ old.machine → Follows content m under old.machine → Happens same content m e under over old new
+  crash_happens e n under over old new is f a =
+      subst (λ d. Happens same content m d under over old new) (sym is)
+      (quiet (Crash n) under over old new refl (ap (λ (g : Followed B M Y). g.told) f) (subst (λ g. Follows content m under g) (sym f) a))
 
-  pub restart_happens : {R E : Type 0} (r : Result R E) (e : Event B) (n : ℕ) (old new : MemberState B M Y) → e ≡ Restart n
-      → new.machine.told ≡ old.machine.told → Follows content m [] new.machine → OnOk r (Happens same content m e old new)
-  restart_happens (Err b) e n old new is told a = tt
-  restart_happens (Ok b) e n old new is told a =
-      subst (λ d. Happens same content m d old new) (sym is) (quiet (Restart n) old new refl told a)
+  pub restart_happens : {R E : Type 0} (r : Result R E) (e : Event B) (n : ℕ) (under over : List (Entry B)) (old new : MemberState B M Y)
+      → e ≡ Restart n → new.machine.told ≡ old.machine.told → Follows content m under new.machine
+      → OnOk r (Happens same content m e under over old new)
+  restart_happens (Err b) e n under over old new is told a = tt
+  restart_happens (Ok b) e n under over old new is told a =
+      subst (λ d. Happens same content m d under over old new) (sym is) (quiet (Restart n) under over old new refl told a)
 
-  pub restart_rests : {R E : Type 0} (r : Result R E) (old new : MemberState B M Y) → new.machine.told ≡ old.machine.told
-      → Follows content m [] new.machine → OnErr r (Rests content m old new)
-  restart_rests (Ok b) old new told a = tt
-  restart_rests (Err b) old new told a = record { handed = λ t. ap (λ u. said_in t u) told; follows = a }
+  pub restart_rests : {R E : Type 0} (r : Result R E) (under : List (Entry B)) (old new : MemberState B M Y)
+      → new.machine.told ≡ old.machine.told → Follows content m under new.machine → OnErr r (Rests content m under old new)
+  restart_rests (Ok b) under old new told a = tt
+  restart_rests (Err b) under old new told a = record { handed = λ t. ap (λ u. said_in t u) told; follows = a }
 
-  pub happens_all : {R E : Type 0} (r : Result R E) (e : Event B) (old new : MemberState B M Y)
+  -- a node that plans the event, and its machine
+  pub happens_all : {R E : Type 0} (r : Result R E) (e : Event B) (under over : List (Entry B)) (old new : MemberState B M Y)
+      → old.node.up ≡ true → is_carried e ≡ true → possible e old.node ≡ true
       → OnOk r ((t : Transport) → said_in t new.machine.told ≡ said_in t old.machine.told
-      ++ handed_to m t old.machine.node old.node.rows.boot old.node.applied (outcome_of same old.members e old.node).applied)
-      → Follows content m [] new.machine → OnOk r (Happens same content m e old new)
-  happens_all (Err b) e old new h a = tt
-  happens_all (Ok b) e old new h a = record { handed = h; follows = a }
-
-  pub rests_all : {R E : Type 0} (r : Result R E) (old new : MemberState B M Y)
-      → OnErr r ((t : Transport) → said_in t new.machine.told ≡ said_in t old.machine.told) → Follows content m [] new.machine
-      → OnErr r (Rests content m old new)
-  rests_all (Ok b) old new h a = tt
-  rests_all (Err b) old new h a = record { handed = h; follows = a }
-
--- the empty log, kept and loaded
-
-all_unknown : (k first n : ℕ) → standing_from_node first n (replicate k Unknown) ≡ Unknown
-all_unknown zero first n = refl
-all_unknown (suc k) first n =
-    cond_both (eqb first n) Unknown (standing_from_node (first + 1) n (replicate k Unknown)) (λ s. s ≡ Unknown) (λ e. refl)
-    (λ e. all_unknown k (first + 1) n)
-
-module _ {B M S Y : Type 0} (content : M → S) (m : Machine B S Y) where
-  pub loaded_first : (log : LogState B M) → IsLoaded content (empty_kept m.first) log → IsLogOf (steps_of m) content m.first [] log
-  loaded_first log h =
+      ++ handed_to m t old.machine.node old.node.rows.boot
+      (base_of (outcome_of same old.members e old.node).change.snapshot under over
+      ++ above_of (outcome_of same old.members e old.node).change.snapshot old.node.applied)
+      (outcome_of same old.members e old.node).applied)
+      → OnOk r (Follows content m (base_of (outcome_of same old.members e old.node).change.snapshot under over) new.machine)
+      → OnOk r (Happens same content m e under over old new)
+  happens_all (Err b) e under over old new up carried can h a = tt
+  happens_all (Ok b) e under over old new up carried can h a =
       record {
-        below = sym h.floor;
-        stands = subst (λ (es : List (Entry B)). Rattle.replica_machine.specs.Log.IsAt (steps_of m) content m.first es log.roll log.machine)
-            (sym h.applied)
-            (h.machine, λ n l. h.roll n l ∙ all_unknown 7 1 n);
+        handed = λ t. h t
+            ∙ ap (λ log. said_in t old.machine.told
+            ++ handed_to m t old.machine.node old.node.rows.boot log (outcome_of same old.members e old.node).applied)
+            (log_is same old.members e old.node up carried can under over);
+        follows = subst (λ l. Follows content m l new.machine) (under_is same old.members e old.node up carried can under over) a;
       }
 
-  pub loads_first : (kept : Option (Kept S)) (log : LogState B M) → IfSome kept (λ k. k ≡ empty_kept m.first)
-      → IsSomeAnd kept (λ k. IsLoaded content k log) → IsLogOf (steps_of m) content m.first [] log
-  loads_first None log h k = absurd k
-  loads_first (Some kept) log h k = loaded_first log (subst (λ z. IsLoaded content z log) h k)
+  pub rests_all : {R E : Type 0} (r : Result R E) (under : List (Entry B)) (old new : MemberState B M Y)
+      → OnErr r ((t : Transport) → said_in t new.machine.told ≡ said_in t old.machine.told) → OnErr r (Follows content m under new.machine)
+      → OnErr r (Rests content m under old new)
+  rests_all (Ok b) under old new h a = tt
+  rests_all (Err b) under old new h a = record { handed = h; follows = a }
 
+-- the empty log, kept
+
+module _ {B M S Y : Type 0} (content : M → S) (m : Machine B S Y) where
   pub kept_first : (log : LogState B M) → IsLogOf (steps_of m) content m.first [] log → log.applied ≡ []
       → kept_of content log ≡ empty_kept m.first
   kept_first log h none =

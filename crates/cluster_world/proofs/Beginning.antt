@@ -8,7 +8,7 @@ use Rattle.cluster_world.proofs.AcceptorTests.{has_from}
 use Rattle.cluster_world.proofs.AtOnce.{AtRest}
 use Rattle.cluster_world.proofs.Casting.{HeardOwn}
 use Rattle.cluster_world.proofs.EventsAtOnce.{all_rest}
-use Rattle.cluster_world.proofs.EveryWorld.{world_ok, play_on}
+use Rattle.cluster_world.proofs.EveryWorld.{world_ok, play_on, floor_none, whole_is}
 use Rattle.cluster_world.proofs.Leading.{AreBelow}
 use Rattle.cluster_world.proofs.Limits.{rounds_fit, first_most, first_slots_fit}
 use Rattle.cluster_world.proofs.Lists.{has_nil, has_cons, has_first}
@@ -26,6 +26,7 @@ use Rattle.paxos_packets.specs.Ballot.{below}
 use Rattle.paxos_packets.specs.Body.{IsEquality}
 use Rattle.paxos_packets.specs.Members.{IsMember, is_majority}
 use Rattle.paxos_packets.specs.Packet.{packet}
+use Rattle.paxos_packets.specs.Snapshot.{floor_in}
 use Rattle.paxos_packets.specs.Vote.{votes_from}
 use Rattle.paxos_packets.specs.declared.ballot.Ballot.{Ballot}
 use Rattle.paxos_packets.specs.declared.packet.Kind.TheVariants.{Prepare}
@@ -39,7 +40,7 @@ use Rattle.paxos_node.specs.Events.{most_pending}
 use Rattle.paxos_node.specs.declared.event.Event.{Event}
 use Rattle.paxos_node.specs.declared.event.Event.TheVariants.{Start, Deliver}
 use Rattle.paxos_planning.specs.Node.{NodeState, log_length}
-use Rattle.cluster_world.specs.World.{World, node_at, first_world, next, play, played}
+use Rattle.cluster_world.specs.World.{World, node_at, first_world, next, play, played, under, log_of}
 use Rattle.cluster_world.specs.Rescue.{Apart, round_held, last_rescue_round, last_rescue_slot}
 use Rattle.world_rescue.specs.Course.{Seat, Crew, Act, refused_round, look, lead, led, pass, seen_then, first_role, first_votes}
 use Rattle.world_rescue.specs.Course.{first_pass}
@@ -106,6 +107,7 @@ seat_of_number {B} (s ∷ seats) j h =
 pub record HasRoom {B : Type 0} (x : NodeState B) : Type 0 where
   pub rounds : round_held x ≤ last_rescue_round
   pub slots : (v : Vote B) → Has x.rows.votes v → v.slot ≤ last_rescue_slot
+  pub floor : floor_in x.rows.snapshot ≡ 0
 
 module _ {B : Type 0} (same : B → B → Bool) (equal : IsEquality same) (members : ℕ) (three : 3 ≤ members) (few : members ≤ 7)
     (events : List (Event B))
@@ -168,13 +170,18 @@ module _ {B : Type 0} (same : B → B → Bool) (equal : IsEquality same) (membe
   rests : (s : Seat B) → Has seats s → AtRest s.node
   rests s h = subst (λ x. AtRest x) (are s h) (all_rest same members events s.number)
 
-  -- no node has a snapshot
+  -- none of the crew has a snapshot
+  plain_at : (k : ℕ) → floor_in (node_at w.nodes k).rows.snapshot ≡ 0 → (node_at w.nodes k).rows.snapshot ≡ None
+  plain_at k e =
+      let ok = (world_ok same equal members two events).cuts in floor_none ok (node_at w.nodes k).rows.snapshot (ok.found.nodes k) e
 
   pub plains : (s : Seat B) → Has seats s → s.node.rows.snapshot ≡ None
-  plains s h = ap (λ (x : NodeState B). x.rows.snapshot) (sym (are s h)) ∙ (world_ok same equal members two events).plain s.number
+  plains s h =
+      ap (λ (x : NodeState B). x.rows.snapshot) (sym (are s h))
+      ∙ plain_at s.number (ap (λ (x : NodeState B). floor_in x.rows.snapshot) (are s h) ∙ (rooms s h).floor)
 
   pub own_plain : x0.rows.snapshot ≡ None
-  own_plain = (world_ok same equal members two events).plain n
+  own_plain = plain_at n room.floor
 
   -- rounds
 
@@ -294,9 +301,26 @@ module _ {B : Type 0} (same : B → B → Bool) (equal : IsEquality same) (membe
   -- the log ends before the last slot in which the crew voted
   log_fits : log_length x0 ≤ last_rescue_slot
   log_fits =
-      log_low same members events equal three last_rescue_slot (λ k. eqb n k || list_any (λ (s : Seat B). eqb s.number k) seats)
-      (ltb-true _ _ enough) slots n
+      subst (λ a. a ≤ last_rescue_slot) whole
+      (log_low same members events equal three last_rescue_slot (λ k. eqb n k || list_any (λ (s : Seat B). eqb s.number k) seats)
+      (ltb-true _ _ enough) slots flats n)
     where
+      whole : length (log_of w n) ≡ log_length x0
+      whole =
+          ap length (whole_is w.cuts x0 up ∙ (λ i. under w.cuts (own_plain i) ++ x0.applied))
+          ∙ (sym (none_under (length x0.applied)) ∙ ap (λ o. floor_in o + length x0.applied) (sym own_plain))
+        where
+          none_under : (a : ℕ) → 0 + a ≡ a
+          none_under a = omega arith
+
+      flats : (k : ℕ) → (eqb n k || list_any (λ (s : Seat B). eqb s.number k) seats) ≡ true → (node_at w.nodes k).rows.snapshot ≡ None
+      flats k t =
+          ⊎_elim (λ e. subst (λ j. (node_at w.nodes j).rows.snapshot ≡ None) (eqb-true n k e) own_plain)
+          (λ e. let s = seat_of_number seats k e in
+          subst (λ j. (node_at w.nodes j).rows.snapshot ≡ None) s.2
+          (ap (λ (x : NodeState B). x.rows.snapshot) (are s.0 s.1) ∙ plains s.0 s.1))
+          (or_cases (eqb n k) (list_any (λ (s : Seat B). eqb s.number k) seats) t)
+
       slots : (k : ℕ) (v : Vote B) → (eqb n k || list_any (λ (s : Seat B). eqb s.number k) seats) ≡ true → Has
           (node_at w.nodes k).rows.votes v
           → v.slot ≤ last_rescue_slot
@@ -387,6 +411,7 @@ module _ {B : Type 0} (same : B → B → Bool) (equal : IsEquality same) (membe
       (subst (λ (l : List _). suc last_rescue_slot + length l ≤ first_most) (sym pending_is)
       (room_left (length x0.pending) (pending_is_few same members events n)))
       first_slots_fit mays (λ s h. (asked s h).votes) (ap (λ (x : NodeState B). x.rows.votes) x_is) plains own_plain
+      (λ s h. (asked s h).snapshot ∙ plains s h) (ap (λ (x : NodeState B). x.rows.snapshot) x_is ∙ own_plain)
       (λ s h. below_past (suc (log_length (node_at u.nodes n))) s.node (rooms s h))
       (below_past (suc (log_length (node_at u.nodes n))) x0 room) (heard_none same members (events ++ lk) equal three ballot may_own n)
       (all_eights same members (events ++ lk) n) heards enough_first enough_then

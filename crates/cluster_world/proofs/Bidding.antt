@@ -77,7 +77,7 @@ module _ {B : Type 0} (same : B → B → Bool) (equal : IsEquality same) (membe
       (flat : x.rows.snapshot ≡ None) (own_plain : own.node.rows.snapshot ≡ None)
       (belows : (s : Seat B) → Has seats s → AreBelow past (votes_then first cast s))
       (own_below : AreBelow past (votes_then first cast own))
-      (heard : HeardOwn ballot n x.learner) (eights : AreEights x.learner.heard)
+      (level : x.learner.floor ≡ 0) (heard : HeardOwn ballot n x.learner) (eights : AreEights x.learner.heard)
       (enough : is_majority members (among (fold (λ ks s. s.number ∷ ks) (n ∷ []) seats)) ≡ true) where
     flat_y : y.rows.snapshot ≡ None
     flat_y = ap (λ (z : NodeState B). z.rows.snapshot) started.own ∙ flat
@@ -112,6 +112,8 @@ module _ {B : Type 0} (same : B → B → Bool) (equal : IsEquality same) (membe
             promised = ap (λ (z : NodeState B). z.rows.promised) started.own;
             cast = ap (λ (z : NodeState B). z.rows.votes) started.own;
             role = ap (λ (z : NodeState B). z.proposer.role) started.own;
+            level = ap (λ (z : NodeState B). z.learner.floor) started.own ∙ level;
+            from_one = tt;
             learned = refl;
             log = refl;
             pending = refl;

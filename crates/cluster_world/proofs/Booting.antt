@@ -5,14 +5,14 @@ use Rattle.std.specs.Prelude.{slice_index_or, nat_lt}
 use Rattle.std.proofs.lemmas.Bool.{cond_both, cases_eq, cases_lt, and_parts}
 use Rattle.cluster_world.proofs.Lists.{has_nil, has_one, has_cases}
 use Rattle.cluster_world.proofs.EveryWorld.{within, node_same, node_other}
-use Rattle.cluster_world.proofs.Handing.{Ran, Began, event_cases}
+use Rattle.cluster_world.proofs.Standing.{Ran, Began, event_cases}
 use Rattle.cluster_world.proofs.Taking.{founded_length, log_was_made}
 use Rattle.paxos_packets.specs.Rows.{first_rows}
 use Rattle.paxos_packets.specs.Members.{IsMember}
 use Rattle.cluster_world.specs.Has.{Has}
 use Rattle.paxos_packets.specs.declared.entry.Entry.{Entry}
 use Rattle.paxos_packets.specs.declared.entry.Entry.TheVariants.{Noop, Boot, Lost}
-use Rattle.replica_machine.specs.Roll.{standing, live_in}
+use Rattle.replica_machine.specs.Roll.{live_in}
 use Rattle.paxos_node.specs.declared.event.Event.{Event}
 use Rattle.paxos_node.specs.declared.event.Event.TheVariants.{Take, Suspect, Restart}
 use Rattle.paxos_planning.specs.Node.{NodeState, Plan}
@@ -128,7 +128,7 @@ module _ {B : Type 0} (same : B → B → Bool) where
       record {
         by = m;
         is = ap (λ k. Suspect m k) (sym (names r.0 r.1));
-        live = subst (λ (z : ℕ × ℕ). live_in (standing z.0 x.applied) ≡ Some z.1) (λ i. (sym (names r.0 r.1) i, sym (boots r.0 r.1) i)) r.2;
+        live = subst (λ (z : ℕ × ℕ). live_in (standing_of x z.0) ≡ Some z.1) (λ i. (sym (names r.0 r.1) i, sym (boots r.0 r.1) i)) r.2;
       }
     where
       names : (c : ℕ) → ◌≡◌ {A = Entry B} (Lost n b) (Lost other c) → n ≡ other

@@ -1,11 +1,12 @@
 -- What a leader proposed is carried to the helpers, and their votes back: it learns all of it, or goes down.
-use Rattle.std.proofs.Common.{◌≡◌, inl, ℕ, ◌≤◌, ◌<◌, Bool, true, refl, sym, ap, ◌∙◌, subst, List, [], ◌∷◌, None}
+use Rattle.std.proofs.Common.{◌≡◌, inl, ℕ, ◌≤◌, ◌<◌, Bool, true, refl, sym, ap, ◌∙◌, subst, arith, List, [], ◌∷◌, None}
+use Rattle.std.proofs.lemmas.Bool.{ltb-true}
 use Rattle.std.proofs.lemmas.List.{append-nil}
 use Rattle.cluster_world.proofs.AtOnce.{AtRest}
 use Rattle.cluster_world.proofs.Casting.{HeardOwn}
 use Rattle.cluster_world.proofs.EveryWorld.{WorldOk}
 use Rattle.cluster_world.proofs.Leading.{Bids}
-use Rattle.cluster_world.proofs.Lists.{has_nil, has_filter}
+use Rattle.cluster_world.proofs.Lists.{has_nil, has_filter, has_passes}
 use Rattle.cluster_world.proofs.Looking.{up_stepped, promises_it}
 use Rattle.cluster_world.proofs.Passing.{Ready, Rode, Passed, among, counted_by, passes}
 use Rattle.cluster_world.proofs.Playing.{stepped, none_is}
@@ -35,19 +36,20 @@ module _ {B : Type 0} (same : B → B → Bool) (equal : IsEquality same) (membe
 
   -- a helper that has just promised the ballot is ready
   pub ready_after : (y x : NodeState B) (k first : ℕ) → x.up ≡ true → AtRest x → may_promise x.rows.promised ballot ≡ true
-      → x.rows.snapshot ≡ None → HeardOwn ballot k x.learner
+      → x.rows.snapshot ≡ None → x.learner.floor ≡ 0 → HeardOwn ballot k x.learner
       → Ready same equal members many n member round y k x.rows.votes (stepped same members (Deliver (packet n (Prepare ballot first) k)) x)
-  ready_after y x k first up rest may plain own =
+  ready_after y x k first up rest may plain level own =
       subst (λ z. Ready same equal members many n member round y k x.rows.votes z)
       (sym (up_stepped same members (packet n (Prepare ballot first) k) x up
       ∙ ap (λ (o : Plan B). o.node) (promises_it same members n k first ballot x rest may)))
-      (record { up = up; promised = refl; votes_are = refl; plain = plain; own = own; rests = rest })
+      (record { up = up; promised = refl; votes_are = refl; plain = plain; level = level; own = own; rests = rest })
 
   -- the leader's proposals are passed on
   module _ (p : World B) (ok : WorldOk members p) (votes : List (Vote B)) (y : NodeState B) (r : Role B)
       (bids : Bids same members many n low ballot votes y (node_at p.nodes n) p.sent r) (seats : List (Seat B)) (apart : Apart n seats)
       (others : (s : Seat B) → Has seats s → IsMember members s.number) (lows : (s : Seat B) → Has seats s → s.number < 8)
-      (enough : is_majority members (among (n ∷ counted_by seats)) ≡ true) where
+      (enough : is_majority members (among (n ∷ counted_by seats)) ≡ true)
+      (flat : (node_at p.nodes n).rows.snapshot ≡ None) where
     abbrev pub x : NodeState B
     x = node_at p.nodes n
 
@@ -58,6 +60,8 @@ module _ {B : Type 0} (same : B → B → Bool) (equal : IsEquality same) (membe
           ride = record {
             up = bids.up;
             rows = refl;
+            plain = flat;
+            level = bids.level;
             role = refl;
             taken = refl;
             log = sym (append-nil x.applied);
@@ -77,9 +81,14 @@ module _ {B : Type 0} (same : B → B → Bool) (equal : IsEquality same) (membe
         (play same members (pass n seats (behind applied (proposals_of r))) p)
     carries applied ready =
         passes same equal members many n member round x seats apart lows enough (behind applied (proposals_of r)) []
-        (λ k. (node_at p.nodes k).rows.votes) p (λ v h. bids.mine v (in_all v h)) (λ v h. bids.heard v (in_all v h))
+        (λ k. (node_at p.nodes k).rows.votes) p (λ v h. bids.mine v (in_all v h))
+        (λ v h. from_one applied v.slot (ltb-true applied v.slot (has_passes (λ (w : Vote B). nat_lt applied w.slot) (proposals_of r) h)))
+        (λ v h. bids.heard v (in_all v h))
         (λ v s h i. bids.out v (in_all v h) s.number (others s i) (none_is n seats apart s i)) ready
         (record { ok = ok; fate = inl rode })
       where
+        from_one : (a s : ℕ) → a < s → 1 ≤ s
+        from_one a s l = omega arith
+
         in_all : (v : Vote B) → Has (behind applied (proposals_of r)) v → Has (proposals_of r) v
         in_all v h = has_filter (λ (w : Vote B). nat_lt applied w.slot) (proposals_of r) h

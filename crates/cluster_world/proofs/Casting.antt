@@ -4,7 +4,7 @@ use Rattle.std.proofs.Common.{length, Some, None}
 use Rattle.std.specs.Prelude.{if◌then◌else◌}
 use Rattle.std.specs.Map.{lookup}
 use Rattle.std.specs.Option.{unwrap_or}
-use Rattle.std.proofs.lemmas.Bool.{cond-false, cases_eq, cases_lt, and_from, eq-eqb, ne_eqb}
+use Rattle.std.proofs.lemmas.Bool.{cond-false, cases_eq, cases_lt, and_from, eq-eqb, ne_eqb, lt-leb}
 use Rattle.std.proofs.lemmas.List.{get_or-set_same, get_or-set_other, get_or_past, length-set}
 use Rattle.cluster_world.proofs.AtOnce.{alone_is_few}
 use Rattle.cluster_world.proofs.Learner.{place_sound, heard_at, tally_cases, with_cases}
@@ -18,7 +18,8 @@ use Rattle.paxos_packets.specs.declared.packet.Kind.{Kind}
 use Rattle.paxos_packets.specs.declared.vote.Vote.{Vote}
 use Rattle.paxos_learner.specs.declared.tallies.SlotBallot.{SlotBallot}
 use Rattle.paxos_learner.specs.Tallies.{Heard, same_place, place_of, nodes_heard, insert_entry}
-use Rattle.paxos_learner.specs.Learner.{LearnerState, hears, has_most, learn, count_vote}
+use Rattle.paxos_learner.specs.Learned.{is_closed}
+use Rattle.paxos_learner.specs.Learner.{LearnerState, hears, has_most, learn, learn_chosen, count_vote}
 
 -- in the slots from this one on node k heard of no vote in this ballot but its own
 pub record HeardFrom {B : Type 0} (b : Ballot) (from k : ℕ) (l : LearnerState B) : Type 0 where
@@ -54,11 +55,19 @@ own_is_few members many b from k v l e g ok =
     (λ j q. let u = heard_at l.heard (place_of v) j q in
     ok.only u.0 u.1 j u.3 (ap (λ p. p.ballot) u.2 ∙ e) (subst (λ p. from ≤ p.slot) (sym u.2) g))
 
+-- at floor 0 no slot is closed
+pub none_closed : (floor slot : ℕ) → floor ≡ 0 → 1 ≤ slot → is_closed floor slot ≡ false
+none_closed floor slot e l = ap (λ f. is_closed f slot) e ∙ lt-leb slot 0 (above l)
+  where
+    above : 1 ≤ slot → 0 < slot
+    above h = omega arith
+
 -- so it learns nothing by one more of its own
-pub counts_own : {B : Type 0} (members : ℕ) → 2 ≤ members → (b : Ballot) (from k : ℕ) (v : Vote B) (l : LearnerState B) → v.ballot ≡ b
-    → from ≤ v.slot → HeardFrom b from k l → count_vote members k v l ≡ hears k v l
-counts_own members many b from k v l e g ok =
-    cond-false (has_most members v (hears k v l)) (learn v.slot v.entry (hears k v l)) (hears k v l)
+pub counts_own : {B : Type 0} (members : ℕ) → 2 ≤ members → (b : Ballot) (from k : ℕ) (v : Vote B) (l : LearnerState B) → l.floor ≡ 0
+    → 1 ≤ v.slot → v.ballot ≡ b → from ≤ v.slot → HeardFrom b from k l → count_vote members k v l ≡ hears k v l
+counts_own members many b from k v l level least e g ok =
+    cond-false (is_closed l.floor v.slot) l (learn_chosen members v (hears k v l)) (none_closed l.floor v.slot level least)
+    ∙ cond-false (has_most members v (hears k v l)) (learn v.slot v.entry (hears k v l)) (hears k v l)
     (own_is_few members many b from k v (hears k v l) e g (hears_own b from k v l ok))
 
 -- what is sent to the others is sent to each

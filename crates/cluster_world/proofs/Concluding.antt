@@ -1,12 +1,12 @@
 -- How a pass ends: the node's log goes on with all that it proposed, or the loss of its boot is among that.
 use Rattle.std.proofs.Common.{◌≡◌, ◌⊎◌, inl, inr, ⊎_elim, ℕ, suc, ◌+◌, ◌≤◌, Bool, true, sym, ap, ◌∙◌, subst, arith}
-use Rattle.std.proofs.Common.{List, [], ◌∷◌, ◌++◌, length, Some}
+use Rattle.std.proofs.Common.{List, [], ◌∷◌, ◌++◌, length, length-append, Option, Some, None}
 use Rattle.std.specs.Prelude.{slice_get}
 use Rattle.std.proofs.lemmas.Bool.{or_left}
 use Rattle.cluster_world.proofs.AcceptorTests.{put_has, put_cases, put_keeps}
 use Rattle.cluster_world.proofs.Agreeing.{log_is_chosen, chosen_out}
 use Rattle.cluster_world.proofs.Ends.{has_end_both}
-use Rattle.cluster_world.proofs.EveryWorld.{play_on}
+use Rattle.cluster_world.proofs.EveryWorld.{play_on, whole_is}
 use Rattle.cluster_world.proofs.Fates.{Rides, Fell}
 use Rattle.cluster_world.proofs.Filling.{first_of, filled}
 use Rattle.cluster_world.proofs.Lists.{has_nil, has_cons}
@@ -15,6 +15,8 @@ use Rattle.cluster_world.proofs.Slots.{AreAfter}
 use Rattle.cluster_world.specs.Has.{Has, here, there}
 use Rattle.paxos_packets.specs.Body.{IsEquality}
 use Rattle.paxos_packets.specs.Members.{IsMember, IsMajority}
+use Rattle.paxos_packets.specs.Snapshot as taken
+use Rattle.paxos_packets.specs.Snapshot.{floor_in}
 use Rattle.paxos_packets.specs.Vote.{put_vote, put_votes}
 use Rattle.paxos_packets.specs.declared.ballot.Ballot.{Ballot}
 use Rattle.paxos_packets.specs.declared.entry.Entry.{Entry}
@@ -25,7 +27,7 @@ use Rattle.paxos_node.specs.declared.event.Event.{Event}
 use Rattle.paxos_planning.specs.Node.{NodeState, log_length}
 use Rattle.replica_machine.specs.Roll.{standing_from}
 use Rattle.cluster_world.specs.Chosen.{Chosen}
-use Rattle.cluster_world.specs.World.{World, node_at, first_world, play, played}
+use Rattle.cluster_world.specs.World.{World, node_at, first_world, play, played, under, log_of}
 use Rattle.world_rescue.specs.Course.{Seat, entries_of}
 
 -- votes that were put one after the other
@@ -75,7 +77,7 @@ slots_within {B} slot (v ∷ vs) u a h =
     later : (s c : ℕ) → s ≤ suc slot + c → s ≤ slot + suc c
     later s c l = omega arith
 
-get_right : {A : Type 0} (xs ys : List A) (i : ℕ) → slice_get (xs ++ ys) (length xs + i) ≡ slice_get ys i
+pub get_right : {A : Type 0} (xs ys : List A) (i : ℕ) → slice_get (xs ++ ys) (length xs + i) ≡ slice_get ys i
 get_right [] ys i = ap (λ k. slice_get ys k) (plain i)
   where
     plain : (k : ℕ) → 0 + k ≡ k
@@ -113,9 +115,15 @@ module _ {B : Type 0} (same : B → B → Bool) (equal : IsEquality same) (membe
       (own_votes : x.rows.votes ≡ put_votes table votes) (own_promise : x.rows.promised ≡ Some ballot)
       (mine : (v : Vote B) → Has vs v → v.ballot ≡ ballot) (crew : ℕ → Bool) (most : IsMajority members crew)
       (in_crew : (k : ℕ) → crew k ≡ true → (k ≡ n) ⊎ ((s : Seat B) × Has seats s × (s.number ≡ k)))
-      (short : (k : ℕ) (v : Vote B) → crew k ≡ true → Has (node_at p.nodes k).rows.votes v → v.slot ≤ log_length x + length vs) where
+      (short : (k : ℕ) (v : Vote B) → crew k ≡ true → Has (node_at p.nodes k).rows.votes v → v.slot ≤ log_length x + length vs) (flat : x.rows.snapshot ≡ None) where
     abbrev z : NodeState B
     z = node_at q.nodes n
+
+    bare : log_length x ≡ length x.applied
+    bare = ap (λ (o : Option taken.Snapshot). floor_in o + length x.applied) flat ∙ none_under (length x.applied)
+      where
+        none_under : (a : ℕ) → 0 + a ≡ a
+        none_under a = omega arith
 
     voted : (v : Vote B) → Has vs v → Has x.rows.votes v
     voted v h = subst (λ l. Has l v) (sym own_votes) (put_all_has start table votes v ordered (among_table v h))
@@ -127,6 +135,11 @@ module _ {B : Type 0} (same : B → B → Bool) (equal : IsEquality same) (membe
           ⊎_elim (λ (e : k ≡ n). subst (λ j. (node_at q.nodes j).rows.promised ≡ Some ballot) (sym e)
           (ap (λ r. r.promised) rows ∙ own_promise))
           (λ s. subst (λ j. (node_at q.nodes j).rows.promised ≡ Some ballot) s.2 (passed.helpers s.0 s.1).promised) (in_crew k c)
+
+      flats : (k : ℕ) → crew k ≡ true → (node_at q.nodes k).rows.snapshot ≡ None
+      flats k c =
+          ⊎_elim (λ (e : k ≡ n). subst (λ j. (node_at q.nodes j).rows.snapshot ≡ None) (sym e) (ap (λ r. r.snapshot) rows ∙ flat))
+          (λ s. subst (λ j. (node_at q.nodes j).rows.snapshot ≡ None) s.2 (passed.helpers s.0 s.1).plain) (in_crew k c)
 
       short_then : (k : ℕ) (v : Vote B) → crew k ≡ true → Has (node_at q.nodes k).rows.votes v → v.slot ≤ log_length x + length vs
       short_then k v c h =
@@ -155,11 +168,12 @@ module _ {B : Type 0} (same : B → B → Bool) (equal : IsEquality same) (membe
         rode : Rode same equal members two n member round x z vs → Ending vs z
         rode r =
             Rode_on (subst (λ l. Rides same equal members two n x z l)
-            (filled same equal members many (early ++ later) n ballot x.applied r.es vs crew most chosen after
+            (filled same equal members many (early ++ later) n ballot (log_length x) r.es vs crew most chosen after
             (λ v h. at_q (λ w. Has (node_at w.nodes n).rows.votes v) (subst (λ s. Has s.votes v) (sym r.ride.rows) (voted v h))) mine
             (λ k c. at_q (λ w. (node_at w.nodes k).rows.promised ≡ Some ballot) (promised r.ride.rows k c))
             (λ k v c h. short_then r.ride.rows k v c (subst (λ w. Has (node_at w.nodes k).rows.votes v) q_is h))
-            (ap (λ w. (node_at w.nodes n).applied) q_is ∙ r.ride.log)
+            (λ k c. at_q (λ w. (node_at w.nodes k).rows.snapshot ≡ None) (flats r.ride.rows k c))
+            (ap (λ w. log_length (node_at w.nodes n)) q_is ∙ longer)
             (λ v h. at_q (λ w. is_learned v.slot (node_at w.nodes n).learner.learned ≡ true) (r.done v h)))
             r.ride)
           where
@@ -167,17 +181,29 @@ module _ {B : Type 0} (same : B → B → Bool) (equal : IsEquality same) (membe
                 → Chosen members (played same members (early ++ later)).sent (suc (log_length x + i)) e
             chosen i e h =
                 log_is_chosen same equal members many (early ++ later) n (log_length x + i) e
-                (ap (λ w. slice_get (node_at w.nodes n).applied (log_length x + i)) q_is
-                ∙ (ap (λ l. slice_get l (log_length x + i)) r.ride.log ∙ (get_right x.applied r.es i ∙ h)))
+                (ap (λ w. slice_get (log_of w n) (log_length x + i)) q_is
+                ∙ (ap (λ l. slice_get l (log_length x + i))
+                (whole_is q.cuts z r.ride.up ∙ ((λ j. under q.cuts (r.ride.plain j) ++ z.applied) ∙ r.ride.log))
+                ∙ (ap (λ a. slice_get (x.applied ++ r.es) (a + i)) bare ∙ (get_right x.applied r.es i ∙ h))))
+
+            longer : log_length z ≡ log_length x + length r.es
+            longer =
+                (λ j. floor_in ((r.ride.rows j).snapshot) + length (r.ride.log j))
+                ∙ (ap (λ a. floor_in x.rows.snapshot + a) (length-append x.applied r.es)
+                ∙ regroup (floor_in x.rows.snapshot) (length x.applied) (length r.es))
+              where
+                regroup : (a c d : ℕ) → a + (c + d) ≡ (a + c) + d
+                regroup a c d = omega arith
 
         fell : (es : List (Entry B)) × Fell same equal members two n x z q.sent es → Ending vs z
         fell f =
             let rows = ap (λ (y : NodeState B). y.rows) f.1.down_is in
             let first =
-            first_of same equal members many (early ++ later) n ballot x.applied f.0 vs crew most chosen after
+            first_of same equal members many (early ++ later) n ballot (log_length x) f.0 vs crew most chosen after
             (λ v h. at_q (λ w. Has (node_at w.nodes n).rows.votes v) (subst (λ s. Has s.votes v) (sym rows) (voted v h))) mine
             (λ k c. at_q (λ w. (node_at w.nodes k).rows.promised ≡ Some ballot) (promised rows k c))
-            (λ k v c h. short_then rows k v c (subst (λ w. Has (node_at w.nodes k).rows.votes v) q_is h)) in
+            (λ k v c h. short_then rows k v c (subst (λ w. Has (node_at w.nodes k).rows.votes v) q_is h))
+            (λ k c. at_q (λ w. (node_at w.nodes k).rows.snapshot ≡ None) (flats rows k c)) in
             Went_down f.1.down_is
             (ap (λ l. has_end n x.rows.boot (standing_of x n) l) (sym first.1)
             ∙ (has_end_both n x.rows.boot (standing_of x n) f.0 first.0
@@ -189,4 +215,5 @@ module _ {B : Type 0} (same : B → B → Bool) (equal : IsEquality same) (membe
             chosen i e h =
                 at_q (λ w. Chosen members w.sent (suc (log_length x + i)) e)
                 (chosen_out members q.sent (suc (log_length x + i)) e
-                (f.1.logged.at (log_length x + i) e (get_right x.applied f.0 i ∙ h)))
+                (f.1.logged.at (log_length x + i) e
+                (ap (λ a. slice_get (x.applied ++ f.0) (a + i)) bare ∙ (get_right x.applied f.0 i ∙ h))))

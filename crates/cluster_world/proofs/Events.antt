@@ -35,7 +35,7 @@ use Rattle.paxos_proposer.specs.Proposer.{round_of, new_ballot, step_down, nacke
 use Rattle.paxos_proposer.specs.Promises.{lowest}
 use Rattle.paxos_proposer.specs.Reports.{is_counted, reports, past_reports, called_for}
 use Rattle.paxos_learner.specs.declared.learned.LearnedEntry.{LearnedEntry}
-use Rattle.paxos_learner.specs.Learner.{is_learned, learn, disagrees, vote_disagrees}
+use Rattle.paxos_learner.specs.Learner.{LearnerState, is_known, learn, disagrees, vote_disagrees}
 use Rattle.paxos_planning.specs.Node.{NodeState, Plan, log_length}
 use Rattle.paxos_planning.specs.Plan.{with_role, with_pending, with_learner, promised_at, counted_at, send, promise, count, hear_learned, cast}
 use Rattle.paxos_planning.specs.Proposals.{propose, lead, stands, propose_new, propose_each, forwarded, push}
@@ -92,7 +92,7 @@ module _ {B : Type 0} (same : B → B → Bool) (equal : IsEquality same) (membe
       let g : Go t (send new t) = subst (λ l. Kept members at n t.node (all t) t.node l) (append_assoc before t.packets new)
       (quiet_moved members at n t.node t.node (all t) new inv refl (mine_ok members at n t.node (all t) inv) quiet) in
       record {
-        path = record { going = g; agrees = λ e. e; stays = record { boot = refl; base = refl; up = refl; log = refl; news = refl; acts = refl } };
+        path = record { going = g; agrees = λ e. e; stays = record { boot = refl; base = refl; up = refl; log = refl; news = refl; cut = refl; acts = refl } };
         free = free_same t (send new t) g refl free;
       }
 
@@ -115,7 +115,7 @@ module _ {B : Type 0} (same : B → B → Bool) (equal : IsEquality same) (membe
       record {
         going = turns t (record t.node { proposer = record { role = r; seen = seen } }) inv refl (with_role_ok t inv r seen ok);
         agrees = λ e. e;
-        stays = record { boot = refl; base = refl; up = refl; log = refl; news = refl; acts = refl };
+        stays = record { boot = refl; base = refl; up = refl; log = refl; news = refl; cut = refl; acts = refl };
       }
 
   -- other pending entries
@@ -129,7 +129,7 @@ module _ {B : Type 0} (same : B → B → Bool) (equal : IsEquality same) (membe
       let g : Go t (record t { node = record t.node { pending = pending; taken = taken } }) =
       turns t (record t.node { pending = pending; taken = taken }) inv refl (pending_ok t inv pending taken) in
       record {
-        path = record { going = g; agrees = λ e. e; stays = record { boot = refl; base = refl; up = refl; log = refl; news = refl; acts = refl } };
+        path = record { going = g; agrees = λ e. e; stays = record { boot = refl; base = refl; up = refl; log = refl; news = refl; cut = refl; acts = refl } };
         free = free_same t (record t { node = record t.node { pending = pending; taken = taken } }) g refl free;
       }
 
@@ -159,7 +159,7 @@ module _ {B : Type 0} (same : B → B → Bool) (equal : IsEquality same) (membe
       subst (λ l. Kept members at n t.node (all t) (promised_at b t.node) l) (append_assoc before t.packets _)
       (promise_moved members at n t.node (all t) from b floor inv e known) in
       record {
-        path = record { going = g; agrees = λ d. d; stays = record { boot = refl; base = refl; up = refl; log = refl; news = refl; acts = refl } };
+        path = record { going = g; agrees = λ d. d; stays = record { boot = refl; base = refl; up = refl; log = refl; news = refl; cut = refl; acts = refl } };
         free = step_down_free (now u) (all u) b t.node.proposer.role (role_free_grows members g.grows t.node.proposer.role free);
       })
       (λ e. refuse_step t from b inv free)
@@ -187,7 +187,7 @@ module _ {B : Type 0} (same : B → B → Bool) (equal : IsEquality same) (membe
               λ d.
               neither t.disagrees (vote_disagrees same members n v t.node.learner) d
               (cast_agrees members many at n same equal t.node (all t) v inv may high known);
-          stays = record { boot = refl; base = refl; up = refl; log = refl; news = refl; acts = refl };
+          stays = record { boot = refl; base = refl; up = refl; log = refl; news = refl; cut = refl; acts = refl };
         };
         free =
             step_down_free (now (cast same members n v t)) (all (cast same members n v t)) v.ballot t.node.proposer.role
@@ -368,7 +368,7 @@ module _ {B : Type 0} (same : B → B → Bool) (equal : IsEquality same) (membe
               neither t.disagrees (vote_disagrees same members from v t.node.learner) d
               (vote_agrees members (now t) (all t) n same equal t.node.learner from v inv.packets
               (learner_of members (now t) (all t) n t.node (mine t inv)) s);
-          stays = record { boot = refl; base = refl; up = refl; log = refl; news = refl; acts = refl };
+          stays = record { boot = refl; base = refl; up = refl; log = refl; news = refl; cut = refl; acts = refl };
         };
         free = free_same t (count same members from v t) g refl free;
       }
@@ -388,7 +388,7 @@ module _ {B : Type 0} (same : B → B → Bool) (equal : IsEquality same) (membe
               λ d.
               neither t.disagrees (disagrees same slot e t.node.learner) d
               (agrees members (now t) (all t) n same equal t.node.learner slot e inv.packets lo chosen);
-          stays = record { boot = refl; base = refl; up = refl; log = refl; news = refl; acts = refl };
+          stays = record { boot = refl; base = refl; up = refl; log = refl; news = refl; cut = refl; acts = refl };
         };
         free = free_same t (hear_learned same slot e t) g refl free;
       }
@@ -433,12 +433,17 @@ module _ {B : Type 0} (same : B → B → Bool) (equal : IsEquality same) (membe
   packet_step t from (Learned slot e) inv free s = learned_step t slot e inv free (record { by = from; is = s })
 
   -- Deliver
+
+  pub saw_step : (t : Plan B) (kind : Kind B) → St t → Fr t → To t (record t { node = saw kind t.node })
+  saw_step t kind inv free =
+      let g = role_path t inv t.node.proposer.role (saw kind t.node).proposer.seen (mine t inv).role in
+      record { path = g; free = free_same t (record t { node = saw kind t.node }) g.going refl free }
+
   pub deliver_step : (t : Plan B) (from : ℕ) (kind : Kind B) → St t → Fr t → Sent (all t) from kind
       → To t (on_packet same members n from kind (record t { node = saw kind t.node }))
   deliver_step t from kind inv free s =
-      let g = role_path t inv t.node.proposer.role (saw kind t.node).proposer.seen (mine t inv).role in
-      step_on same equal members many at n before g
-      (packet_step (record t { node = saw kind t.node }) from kind g.going.inv (free_same t (record t { node = saw kind t.node }) g.going refl free) s)
+      let a = saw_step t kind inv free in
+      then_to a (packet_step (record t { node = saw kind t.node }) from kind a.path.going.inv a.free s)
 
   -- Start
 
@@ -457,7 +462,7 @@ module _ {B : Type 0} (same : B → B → Bool) (equal : IsEquality same) (membe
           going = subst (λ l. Kept members at n t.node (all t) (begin members n b floor t).node l) (append_assoc before t.packets _)
               (begin_moved members at n t.node (all t) b floor many inv (start_may t.node.rows.promised t.node.proposer.seen) refl);
           agrees = λ d. d;
-          stays = record { boot = refl; base = refl; up = refl; log = refl; news = refl; acts = refl };
+          stays = record { boot = refl; base = refl; up = refl; log = refl; news = refl; cut = refl; acts = refl };
         };
         free = tt;
       })
@@ -471,27 +476,27 @@ module _ {B : Type 0} (same : B → B → Bool) (equal : IsEquality same) (membe
 
   -- Tick
 
-  offers_quiet : (sent : List (Packet B)) (learned : List (LearnedEntry B)) (vs : List (Vote B))
-      → ((v : Vote B) → Has vs v → (v.ballot.node ≡ n) × Known sent (Accept v)) → (k : ℕ) (kind : Kind B) → Sent (accepts_again members n learned vs) k kind
+  offers_quiet : (sent : List (Packet B)) (l : LearnerState B) (vs : List (Vote B))
+      → ((v : Vote B) → Has vs v → (v.ballot.node ≡ n) × Known sent (Accept v)) → (k : ℕ) (kind : Kind B) → Sent (accepts_again members n l vs) k kind
       → (k ≡ n) × QuietKind members sent n kind
-  offers_quiet sent learned [] ok k kind s = absurd (sent_nil k kind s)
-  offers_quiet sent learned (v ∷ vs) ok k kind s =
+  offers_quiet sent l [] ok k kind s = absurd (sent_nil k kind s)
+  offers_quiet sent l (v ∷ vs) ok k kind s =
       ⊎_elim
-      (λ b. cond_both (is_learned v.slot learned) [] (to_others members n (Accept v)) (λ l. Sent l k kind → (k ≡ n) × QuietKind members sent n kind)
+      (λ b. cond_both (is_known v.slot l) [] (to_others members n (Accept v)) (λ ps. Sent ps k kind → (k ≡ n) × QuietKind members sent n kind)
       (λ t c. absurd (sent_nil k kind c))
       (λ t c. let o = sent_to_others members n (Accept v) k kind c in (o.0, subst (λ z. QuietKind members sent n z) o.1 (ok v here)))
       b)
-      (λ a. offers_quiet sent learned vs (λ w h. ok w (there h)) k kind a)
-      (sent_cases (if is_learned v.slot learned then [] else to_others members n (Accept v)) (accepts_again members n learned vs) s)
+      (λ a. offers_quiet sent l vs (λ w h. ok w (there h)) k kind a)
+      (sent_cases (if is_known v.slot l then [] else to_others members n (Accept v)) (accepts_again members n l vs) s)
 
-  pub again_quiet : (promised : ℕ → Option Ballot) (o : Option Ballot) (f : ℕ) (sent : List (Packet B)) (learned : List (LearnedEntry B)) (r : Role B)
-      → RoleOk promised o f sent n r → (k : ℕ) (kind : Kind B) → Sent (again members n r learned) k kind → (k ≡ n) × QuietKind members sent n kind
-  again_quiet promised o f sent learned Idle ok k kind s = absurd (sent_nil k kind s)
-  again_quiet promised o f sent learned (Preparing b floor cs) ok k kind s =
+  pub again_quiet : (promised : ℕ → Option Ballot) (o : Option Ballot) (f : ℕ) (sent : List (Packet B)) (l : LearnerState B) (r : Role B)
+      → RoleOk promised o f sent n r → (k : ℕ) (kind : Kind B) → Sent (again members n r l) k kind → (k ≡ n) × QuietKind members sent n kind
+  again_quiet promised o f sent l Idle ok k kind s = absurd (sent_nil k kind s)
+  again_quiet promised o f sent l (Preparing b floor cs) ok k kind s =
       let z = sent_to_some n (filter (λ j. not (is_counted cs j)) (others n members)) (Prepare b floor) k kind s in
       (z.0, subst (λ y. QuietKind members sent n y) z.1 (ok.owner, ok.asked))
-  again_quiet promised o f sent learned (Leading b next table) ok k kind s =
-      offers_quiet sent learned table (λ v h. (ap (λ (z : Ballot). z.node) (ok.owned v h) ∙ ok.owner, ok.own v h)) k kind s
+  again_quiet promised o f sent l (Leading b next table) ok k kind s =
+      offers_quiet sent l table (λ v h. (ap (λ (z : Ballot). z.node) (ok.owned v h) ∙ ok.owner, ok.own v h)) k kind s
 
   asks_step : (t : Plan B) → St t → Fr t → To t (ask members n t)
   asks_step t inv free =
@@ -504,10 +509,10 @@ module _ {B : Type 0} (same : B → B → Bool) (equal : IsEquality same) (membe
   pub tick_step : (t : Plan B) → St t → Fr t → To t (on_tick same members n t)
   tick_step t inv free =
       let a =
-      sends t (again members n t.node.proposer.role t.node.learner.learned) inv free
-      (again_quiet (now t) t.node.rows.promised (own t) (all t) t.node.learner.learned t.node.proposer.role (mine t inv).role) in
-      let b = push_step (send (again members n t.node.proposer.role t.node.learner.learned) t) a.path.going.inv a.free in
-      then_to a (then_to b (asks_step (push same members n (send (again members n t.node.proposer.role t.node.learner.learned) t)) b.path.going.inv b.free))
+      sends t (again members n t.node.proposer.role t.node.learner) inv free
+      (again_quiet (now t) t.node.rows.promised (own t) (all t) t.node.learner t.node.proposer.role (mine t inv).role) in
+      let b = push_step (send (again members n t.node.proposer.role t.node.learner) t) a.path.going.inv a.free in
+      then_to a (then_to b (asks_step (push same members n (send (again members n t.node.proposer.role t.node.learner) t)) b.path.going.inv b.free))
 
   -- Take and Suspect
 

@@ -1,5 +1,5 @@
 -- Each event in every world makes of its node what it would make of one that applies at once.
-use Rattle.std.proofs.Common.{◌≡◌, ⊎_elim, ℕ, suc, ◌<◌, ◌-◌, ◌≤◌, Bool, true, false, not, ◌&&◌, refl, sym, ap, subst, arith}
+use Rattle.std.proofs.Common.{◌≡◌, ⊎_elim, ℕ, suc, ◌+◌, ◌<◌, ◌-◌, ◌≤◌, Bool, true, false, not, ◌&&◌, refl, sym, ap, subst, arith}
 use Rattle.std.proofs.Common.{List, [], ◌∷◌, ◌++◌, length, Option, Some, None}
 use Rattle.std.specs.Prelude.{if◌then◌else◌}
 use Rattle.std.proofs.lemmas.Bool.{cond_both, and_parts, cases_eq}
@@ -12,8 +12,8 @@ use Rattle.cluster_world.proofs.Proposals.{State, FreeAt}
 use Rattle.cluster_world.proofs.Events.{Way, role_path, free_same, propose_new_step, lead_step, promised_ok, mine, sends, again_quiet, pending_step}
 use Rattle.cluster_world.proofs.EveryWorld.{WorldOk, world_ok, start_good, among_has, within, node_same, node_other, plain_at}
 use Rattle.cluster_world.proofs.Taking.{by_next}
-use Rattle.cluster_world.proofs.Applied.{in_every}
-use Rattle.cluster_world.proofs.AtOnce.{AtRest, settle_rest, rest_settled, apply_send, Calm, calm_here, calm_rest, Agrees, agrees_here, then_agrees, end_agrees}
+use Rattle.cluster_world.proofs.Taking.{in_every}
+use Rattle.cluster_world.proofs.AtOnce.{AtRest, settle_rest, cut_rest, rest_settled, apply_send, Calm, calm_here, calm_rest, Agrees, agrees_here, then_agrees, end_agrees}
 use Rattle.cluster_world.proofs.AtOnce.{proposes, recovers}
 use Rattle.paxos_packets.specs.Ballot.{ballot_sound, same_ballot}
 use Rattle.paxos_packets.specs.Members.{is_majority}
@@ -34,14 +34,14 @@ use Rattle.paxos_proposer.specs.Promises.{lowest}
 use Rattle.paxos_proposer.specs.Reports.{is_counted, reports, past_reports, called_for}
 use Rattle.paxos_learner.specs.Learner.{run_from}
 use Rattle.paxos_node.specs.declared.event.Event.{Event}
-use Rattle.paxos_node.specs.declared.event.Event.TheVariants.{Take, Tick, Start, Suspect, Deliver, Crash, Restart}
+use Rattle.paxos_node.specs.declared.event.Event.TheVariants.{Take, Tick, Start, Suspect, Deliver, Cut, Crash, Restart}
 use Rattle.paxos_planning.specs.Node.{NodeState, Plan, log_length}
-use Rattle.paxos_planning.specs.Plan.{with_role, with_pending, begun, send, promise, vote as vote_at_end, count as count_at_end, cast as cast_at_end}
+use Rattle.paxos_planning.specs.Plan.{with_role, with_pending, begun, send, promise, vote as vote_at_end, count as count_at_end}
 use Rattle.paxos_planning.specs.Proposals.{stands, forwarded, propose as propose_at_end, propose_new as propose_new_at_end, lead as lead_at_end}
 use Rattle.paxos_planning.specs.Proposals.{propose_each as propose_each_at_end, push as push_at_end}
 use Rattle.paxos_planning.specs.Replies.{saw, refuse, show, cast_or_show as cast_or_show_at_end, answer_ask, on_nack, count_promise as count_promise_at_end, on_promise_as as on_promise_as_at_end}
-use Rattle.paxos_planning.specs.Replies.{on_packet as on_packet_at_end}
-use Rattle.paxos_node.specs.Events.{takes, with_item, has_room, new_lost, on_event, owner, possible, outcome_of}
+use Rattle.paxos_node.specs.Events.{takes, with_item, has_room, new_lost, deliver, on_event, owner, possible, outcome_of}
+use Rattle.paxos_node.specs.Snapshots.{may_cut}
 use Rattle.paxos_planning.specs.Ticking.{again, ask}
 use Rattle.paxos_planning.specs.Starting.{begin, starts, on_start}
 use Rattle.paxos_node.specs.Events.{on_take as on_take_at_end, suspected as suspected_at_end}
@@ -90,7 +90,7 @@ module _ {B : Type 0} (same : B → B → Bool) (equal : IsEquality same) (membe
         is = ap (λ u. if is_leading t.node.proposer.role then u else send (forwarded n t.node.rows.promised t.node.pending) t) a.is;
         calm = cond_both (is_leading t.node.proposer.role) (propose_each_at_end same members n t.node.pending t)
             (send (forwarded n t.node.rows.promised t.node.pending) t) (λ u. Calm t u)
-            (λ d. a.calm) (λ d. record { learned = refl; log = refl; pending = refl });
+            (λ d. a.calm) (λ d. record { base = refl; learned = refl; log = refl; pending = refl });
       }
 
   -- packets
@@ -108,7 +108,7 @@ module _ {B : Type 0} (same : B → B → Bool) (equal : IsEquality same) (membe
       recovers same equal members many at n before (called_for low (reports cs)) u b low [] g.going.inv refl
       (all_called members (promises (with_node at n u.node)) (all u) b first cs most (λ c h. tells_grows g.going.grows (ok.kept c h)) low is.0
       is.2 (past_reports low (reports cs) - low) low (omega arith)) rest in
-      record { is = a.is; calm = record { learned = a.calm.learned; log = a.calm.log; pending = a.calm.pending } }
+      record { is = a.is; calm = record { base = a.calm.base; learned = a.calm.learned; log = a.calm.log; pending = a.calm.pending } }
     where
       low : ℕ
       low = lowest first (own t) cs
@@ -150,7 +150,7 @@ module _ {B : Type 0} (same : B → B → Bool) (equal : IsEquality same) (membe
           let s = lead_step same equal members many at n before t b first cs inv ok e in
           then_agrees (λ z. now.push same members n z) a
           (pushes (lead_at_end same members n b low (reports cs) t) s.path.going.inv s.free (calm_rest a.calm rest))
-      go false e = record { is = refl; calm = record { learned = refl; log = refl; pending = refl } }
+      go false e = record { is = refl; calm = record { base = refl; learned = refl; log = refl; pending = refl } }
 
   hears_promise : (t : Plan B) (from : ℕ) (b : Ballot) (floor : ℕ) (votes : List (Vote B)) → St t → Sent (all t) from (Promise b floor votes)
       → AtRest t.node → (r : Role B) → t.node.proposer.role ≡ r
@@ -179,7 +179,7 @@ module _ {B : Type 0} (same : B → B → Bool) (equal : IsEquality same) (membe
   refuses t from b rest = settle_rest n (refuse n from b t) rest
 
   ends_packet : (t : Plan B) (from : ℕ) (kind : Kind B) → St t → Fr t → Sent (all t) from kind → AtRest t.node
-      → Ends (now.on_packet same members n from kind t) (on_packet_at_end same members n from kind t)
+      → Ends (now.on_packet same members n from kind t) (deliver same members n from kind t)
   ends_packet t from (Prepare b first) inv free s rest =
       cond_both (may_promise t.node.rows.promised b) (send (packet n (promise_of t.node.rows b first) from ∷ []) (promise b t))
       (refuse n from b t) (λ u. Ends u u)
@@ -214,12 +214,12 @@ module _ {B : Type 0} (same : B → B → Bool) (equal : IsEquality same) (membe
       answered : (given : Option taken.Snapshot) → Ends (answer_ask n from slot given t) (answer_ask n from slot given t)
       answered None = settle_rest n (answer_ask n from slot None t) rest
       answered (Some k) = settle_rest n (answer_ask n from slot (Some k) t) rest
-  ends_packet t from (Snapshot k) inv free s rest = settle_rest n t rest
+  ends_packet t from (Snapshot k) inv free s rest = refl
   ends_packet t from (Learned slot e) inv free s rest = refl
 
   pub ends_deliver : (t : Plan B) (from : ℕ) (kind : Kind B) → St t → Fr t → Sent (all t) from kind → AtRest t.node
       → Ends (now.on_packet same members n from kind (record t { node = saw kind t.node }))
-      (on_packet_at_end same members n from kind (record t { node = saw kind t.node }))
+      (deliver same members n from kind (record t { node = saw kind t.node }))
   ends_deliver t from kind inv free s rest =
       let g =
       role_path same equal members many at n before t inv t.node.proposer.role (saw kind t.node).proposer.seen
@@ -244,14 +244,14 @@ module _ {B : Type 0} (same : B → B → Bool) (equal : IsEquality same) (membe
       → Ends (now.on_tick same members n t) (on_tick_at_end same members n t)
   ends_tick t inv free rest =
       let a =
-      sends same equal members many at n before t (again members n t.node.proposer.role t.node.learner.learned) inv free
+      sends same equal members many at n before t (again members n t.node.proposer.role t.node.learner) inv free
       (again_quiet same equal members many at n before (promises (with_node at n t.node)) t.node.rows.promised (own t) (all t)
-      t.node.learner.learned t.node.proposer.role (mine same equal members many at n before t inv).role) in
-      let u = send (again members n t.node.proposer.role t.node.learner.learned) t in
+      t.node.learner t.node.proposer.role (mine same equal members many at n before t inv).role) in
+      let u = send (again members n t.node.proposer.role t.node.learner) t in
       let p = pushes u a.path.going.inv a.free rest in
       end_agrees {t = u} n rest
       (then_agrees (λ z. ask members n z) p
-      (record { is = refl; calm = record { learned = refl; log = refl; pending = refl } }))
+      (record { is = refl; calm = record { base = refl; learned = refl; log = refl; pending = refl } }))
 
   -- more is pending, and pushed
   pub ends_pending : (t : Plan B) (pending : List (Entry B)) (taken : ℕ) → St t → Fr t → AtRest t.node
@@ -307,33 +307,38 @@ module _ {B : Type 0} (same : B → B → Bool) (members : ℕ) where
   pub all_rest : (events : List (Event B)) → AllRest (played same members events)
   all_rest events =
       in_every same members (λ w. AllRest w) next_rest events (first_world members)
-      (λ k. (λ i. run_from (suc (length ((plain_at {B = B} members k).applied i))) ((plain_at {B = B} members k).learned i)))
+      (λ k. (λ i. run_from (suc (floor_in ((plain_at {B = B} members k).snapshot i) + length ((plain_at {B = B} members k).applied i)))
+      ((plain_at {B = B} members k).learned i)))
 
 module _ {B : Type 0} (same : B → B → Bool) (equal : IsEquality same) where
   as_at_once : (members : ℕ) (many : 2 ≤ members) (w : World B) (e : Event B) → WorldOk members w → AtRest (node_at w.nodes (owner e))
-      → was_sent same e w.sent ≡ true
+      → was_sent same e w.sent ≡ true → possible e (node_at w.nodes (owner e)) ≡ true
       → outcome_of same members e (node_at w.nodes (owner e)) ≡ now.outcome_at_once same members e (node_at w.nodes (owner e))
-  as_at_once members many w (Take k t body) ok rest s =
+  as_at_once members many w (Take k t body) ok rest s p =
       let g = start_good same equal members many w k ok in
       ends_take same equal members many (node_at w.nodes) k w.sent (begun (node_at w.nodes k)) t body g.inv g.free rest
-  as_at_once members many w (Tick k) ok rest s =
+  as_at_once members many w (Tick k) ok rest s p =
       let g = start_good same equal members many w k ok in
       ends_tick same equal members many (node_at w.nodes) k w.sent (begun (node_at w.nodes k)) g.inv g.free rest
-  as_at_once members many w (Start k) ok rest s =
+  as_at_once members many w (Start k) ok rest s p =
       ends_start same equal members many (node_at w.nodes) k w.sent (begun (node_at w.nodes k)) rest
-  as_at_once members many w (Suspect k j) ok rest s =
+  as_at_once members many w (Suspect k j) ok rest s p =
       let g = start_good same equal members many w k ok in
       ends_suspect same equal members many (node_at w.nodes) k w.sent (begun (node_at w.nodes k)) (new_lost same k j (node_at w.nodes k))
       g.inv g.free rest
-  as_at_once members many w (Deliver p) ok rest s =
-      let g = start_good same equal members many w p.addressee ok in
-      ends_deliver same equal members many (node_at w.nodes) p.addressee w.sent (begun (node_at w.nodes p.addressee)) p.sender p.kind
-      g.inv g.free (sent_left [] (record { to = p.addressee; is = among_has same equal p w.sent s })) rest
-  as_at_once members many w (Crash k) ok rest s = refl
-  as_at_once members many w (Restart k) ok rest s = refl
+  as_at_once members many w (Deliver q) ok rest s p =
+      let g = start_good same equal members many w q.addressee ok in
+      ends_deliver same equal members many (node_at w.nodes) q.addressee w.sent (begun (node_at w.nodes q.addressee)) q.sender q.kind
+      g.inv g.free (sent_left [] (record { to = q.addressee; is = among_has same equal q w.sent s })) rest
+  as_at_once members many w (Cut k o) ok rest s p =
+      cut_rest k (begun (node_at w.nodes k)) o
+      (and_parts (node_at w.nodes k).up (may_cut o (node_at w.nodes k)) p).1 rest
+  as_at_once members many w (Crash k) ok rest s p = refl
+  as_at_once members many w (Restart k) ok rest s p = refl
 
   pub applies_as_at_once : AppliesAsAtOnce B same
   applies_as_at_once members l events e t =
       let w = played same members events in
       as_at_once members (omega arith) w e (world_ok same equal members (omega arith) events) (all_rest same members events (owner e))
       (and_parts (was_sent same e w.sent) (possible e (node_at w.nodes (owner e))) t).0
+      (and_parts (was_sent same e w.sent) (possible e (node_at w.nodes (owner e))) t).1

@@ -137,7 +137,7 @@ pub left_pending : {B : Type 0} (es log pending : List (Entry B)) → ((x : Entr
 left_pending [] log pending all fades =
     sym (filter_all (is_wanted (log ++ [])) pending (λ x h. ap (λ l. is_wanted l x) (append-nil log) ∙ all x h))
 left_pending {B} (e ∷ es) log pending all fades =
-    one_behind log e es pending
+    one_behind (λ k. Unknown) log e es pending
     ∙ (left_pending es (log ++ e ∷ []) (filter (is_wanted (log ++ e ∷ [])) pending)
     (λ x h. (passes_both (is_wanted (log ++ e ∷ [])) pending x h).0)
     (λ x h fs gs is over. ap (λ l. is_wanted l x) (append_assoc log (e ∷ []) es)

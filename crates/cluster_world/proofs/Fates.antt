@@ -1,16 +1,17 @@
 -- What becomes of a node as votes for its proposals come back: it applies what it learns, or goes down with a loss of its own boot.
 use Rattle.std.proofs.Common.{◌≡◌, ◌⊎◌, inl, inr, ⊎_elim, ℕ, suc, ◌≤◌, Bool, true, false, ◌||◌, eqb, refl, sym, ap, ◌∙◌, subst, List, []}
-use Rattle.std.proofs.Common.{◌∷◌, ◌++◌, take}
+use Rattle.std.proofs.Common.{◌∷◌, ◌++◌, take, None}
 use Rattle.std.proofs.Common.{append_assoc}
 use Rattle.std.specs.Prelude.{nat_lt}
-use Rattle.std.proofs.lemmas.Bool.{cond_both, cond-true, cases_Bool, or_left, or_right, or_cases, eq-eqb}
-use Rattle.cluster_world.proofs.Casting.{AreEights, eights_more, hears_still}
-use Rattle.cluster_world.proofs.Ends.{has_end_both, end_within, pending_both, standing_both}
+use Rattle.std.proofs.lemmas.Bool.{cond_both, cond-true, cond-false, cases_Bool, or_left, or_right, or_cases, eq-eqb}
+use Rattle.cluster_world.proofs.Casting.{AreEights, eights_more, hears_still, none_closed}
+use Rattle.cluster_world.proofs.Learning.{count_floor}
+use Rattle.cluster_world.proofs.Ends.{has_end_both, end_within, pending_both}
 use Rattle.paxos_node.proofs.Ending.{noted, ended, applied_at_once}
-use Rattle.cluster_world.proofs.EveryWorld.{WorldOk, event_goes}
+use Rattle.cluster_world.proofs.EveryWorld.{WorldOk, event_goes, whole_is}
 use Rattle.cluster_world.proofs.Looking.{up_stepped}
 use Rattle.cluster_world.proofs.Playing.{stepped}
-use Rattle.cluster_world.proofs.Settling.{Logged}
+use Rattle.cluster_world.proofs.Settling.{Logged, settle_change}
 use Rattle.paxos_packets.specs.Body.{IsEquality}
 use Rattle.paxos_packets.specs.Members.{is_in, is_majority}
 use Rattle.paxos_packets.specs.Packet.{packet}
@@ -20,20 +21,21 @@ use Rattle.paxos_packets.specs.declared.packet.Packet.{Packet}
 use Rattle.paxos_packets.specs.declared.vote.Vote.{Vote}
 use Rattle.paxos_learner.specs.declared.tallies.SlotBallot.{SlotBallot}
 use Rattle.paxos_learner.specs.declared.learned.LearnedEntry.{LearnedEntry}
-use Rattle.paxos_learner.specs.Learned.{is_learned}
-use Rattle.paxos_learner.specs.Learner.{LearnerState, hears, has_most, put_learned, learn, count_vote, run_from}
+use Rattle.paxos_learner.specs.Learned.{is_closed, is_learned}
+use Rattle.paxos_learner.specs.Learner.{LearnerState, hears, has_most, put_learned, is_known, learn, learn_chosen, count_vote, run_from}
 use Rattle.paxos_learner.specs.Tallies.{place_of, nodes_heard}
 use Rattle.replica_machine.specs.declared.roll.Standing.{Standing}
-use Rattle.replica_machine.specs.Roll.{standing, standings, standing_from}
+use Rattle.replica_machine.specs.Roll.{standing_from, standings_from}
 use Rattle.paxos_node.specs.Adopting.{pending_behind}
-use Rattle.paxos_node.specs.Applying.{standing_of, down, count_to_end, has_end}
+use Rattle.paxos_node.specs.Applying.{base, standing_of, down, count_to_end, has_end}
 use Rattle.paxos_node.proofs.Rolling.{some_longer}
 use Rattle.paxos_node.specs.Events.{outcome_of}
 use Rattle.paxos_node.specs.declared.event.Event.TheVariants.{Deliver}
 use Rattle.paxos_planning.specs.Node.{NodeState, Plan, log_length}
 use Rattle.paxos_planning.specs.Plan.{begun, count}
 use Rattle.paxos_planning.specs.Replies.{saw}
-use Rattle.cluster_world.specs.World.{World, node_at, was_sent}
+use Rattle.cluster_world.specs.World.{World, node_at, was_sent, under, log_over, log_before}
+use Rattle.paxos_packets.specs.declared.rows.Change.{Change}
 
 -- what is learned stays so
 learned_stays : {B : Type 0} (other : ℕ) (l : LearnedEntry B) (ls : List (LearnedEntry B)) → is_learned other ls ≡ true
@@ -49,24 +51,24 @@ learned_stays {B} other l (m ∷ ms) h =
 learn_keeps : {B : Type 0} (slot other : ℕ) (e : Entry B) (l : LearnerState B) → is_learned other l.learned ≡ true
     → is_learned other (learn slot e l).learned ≡ true
 learn_keeps slot other e l h =
-    cond_both (is_learned slot l.learned) l (record {
-      heard = l.heard;
-      learned = put_learned
-          (record { slot = slot; entry = e }) l.learned;
-    })
+    cond_both (is_known slot l) l (record l { learned = put_learned (record { slot = slot; entry = e }) l.learned })
     (λ z. is_learned other z.learned ≡ true) (λ t. h) (λ t. learned_stays other (record { slot = slot; entry = e }) l.learned h)
 
 pub count_keeps : {B : Type 0} (members k other : ℕ) (v : Vote B) (l : LearnerState B) → is_learned other l.learned ≡ true
     → is_learned other (count_vote members k v l).learned ≡ true
 count_keeps members k other v l h =
-    cond_both (has_most members v (hears k v l)) (learn v.slot v.entry (hears k v l)) (hears k v l) (λ z. is_learned other z.learned ≡ true)
-    (λ t. learn_keeps v.slot other v.entry (hears k v l) h) (λ t. h)
+    cond_both (is_closed l.floor v.slot) l (learn_chosen members v (hears k v l)) (λ z. is_learned other z.learned ≡ true) (λ c. h)
+    (λ c. cond_both (has_most members v (hears k v l)) (learn v.slot v.entry (hears k v l)) (hears k v l)
+    (λ z. is_learned other z.learned ≡ true)
+    (λ t. learn_keeps v.slot other v.entry (hears k v l) h) (λ t. h))
 
-pub count_heard : {B : Type 0} (members k : ℕ) (v : Vote B) (l : LearnerState B) → (count_vote members k v l).heard ≡ (hears k v l).heard
-count_heard members k v l =
-    cond_both (has_most members v (hears k v l)) (learn v.slot v.entry (hears k v l)) (hears k v l) (λ z. z.heard ≡ (hears k v l).heard)
-    (λ t. cond_both (is_learned v.slot l.learned) (hears k v l)
-    (record { heard = (hears k v l).heard; learned = put_learned (record { slot = v.slot; entry = v.entry }) l.learned })
+pub count_heard : {B : Type 0} (members k : ℕ) (v : Vote B) (l : LearnerState B) → is_closed l.floor v.slot ≡ false
+    → (count_vote members k v l).heard ≡ (hears k v l).heard
+count_heard members k v l open' =
+    ap (λ z. z.heard) (cond-false (is_closed l.floor v.slot) l (learn_chosen members v (hears k v l)) open')
+    ∙ cond_both (has_most members v (hears k v l)) (learn v.slot v.entry (hears k v l)) (hears k v l) (λ z. z.heard ≡ (hears k v l).heard)
+    (λ t. cond_both (is_known v.slot (hears k v l)) (hears k v l)
+    (record (hears k v l) { learned = put_learned (record { slot = v.slot; entry = v.entry }) l.learned })
     (λ z. z.heard ≡ (hears k v l).heard) (λ u. refl) (λ u. refl))
     (λ t. refl)
 
@@ -78,21 +80,32 @@ learned_now f (m ∷ ms) =
     (λ t. or_left (eqb f.slot f.slot) (is_learned f.slot (m ∷ ms)) (eq-eqb f.slot f.slot refl))
 
 -- with a majority it learns what was voted for
-pub learns_it : {B : Type 0} (members k : ℕ) (v : Vote B) (l : LearnerState B)
+pub learns_it : {B : Type 0} (members k : ℕ) (v : Vote B) (l : LearnerState B) → is_closed l.floor v.slot ≡ false
     → is_majority members (is_in (nodes_heard (place_of v) (hears k v l).heard)) ≡ true → is_learned v.slot
     (count_vote members k v l).learned ≡ true
-learns_it members k v l m =
+learns_it members k v l open' m =
     subst (λ z. is_learned v.slot z.learned ≡ true)
-    (sym (cond-true (has_most members v (hears k v l)) (learn v.slot v.entry (hears k v l)) (hears k v l) m))
-    (cond_both (is_learned v.slot l.learned) (hears k v l)
-    (record { heard = (hears k v l).heard; learned = put_learned (record { slot = v.slot; entry = v.entry }) l.learned })
-    (λ z. is_learned v.slot z.learned ≡ true) (λ t. t) (λ t. learned_now (record { slot = v.slot; entry = v.entry }) l.learned))
+    (sym (cond-false (is_closed l.floor v.slot) l (learn_chosen members v (hears k v l)) open'
+    ∙ cond-true (has_most members v (hears k v l)) (learn v.slot v.entry (hears k v l)) (hears k v l) m))
+    (cond_both (is_known v.slot (hears k v l)) (hears k v l)
+    (record (hears k v l) { learned = put_learned (record { slot = v.slot; entry = v.entry }) l.learned })
+    (λ z. is_learned v.slot z.learned ≡ true) (λ t. known (is_closed l.floor v.slot) open' t)
+    (λ t. learned_now (record { slot = v.slot; entry = v.entry }) l.learned))
+  where
+    known : (c : Bool) → c ≡ false → (c || is_learned v.slot l.learned) ≡ true → is_learned v.slot l.learned ≡ true
+    known true e h = absurd (never e)
+      where
+        never : true ≡ false → ⊥
+        never e = cc
+    known false e h = h
 
 module _ {B : Type 0} (same : B → B → Bool) (equal : IsEquality same) (members : ℕ) (many : 2 ≤ members) (n : ℕ) (y : NodeState B) where
   -- the node goes on: it applied these entries, none of which ends its boot
   pub record Rides (x : NodeState B) (es : List (Entry B)) : Type 0 where
     pub up : x.up ≡ true
     pub rows : x.rows ≡ y.rows
+    pub plain : x.rows.snapshot ≡ None
+    pub level : x.learner.floor ≡ 0
     pub role : x.proposer.role ≡ y.proposer.role
     pub taken : x.taken ≡ y.taken
     pub log : x.applied ≡ y.applied ++ es
@@ -111,7 +124,7 @@ module _ {B : Type 0} (same : B → B → Bool) (equal : IsEquality same) (membe
   -- a vote of node k comes back
   module _ (w : World B) (ok : WorldOk members w) (k : ℕ) (v : Vote B) (sent : was_sent same (Deliver (packet k (Accepted v) n)) w.sent
       ≡ true)
-      (es : List (Entry B)) (ride : Rides (node_at w.nodes n) es) where
+      (least : 1 ≤ v.slot) (es : List (Entry B)) (ride : Rides (node_at w.nodes n) es) where
     abbrev x : NodeState B
     x = node_at w.nodes n
 
@@ -142,14 +155,20 @@ module _ {B : Type 0} (same : B → B → Bool) (equal : IsEquality same) (membe
     x'_is : stepped same members (Deliver back) x ≡ (ended (has_end n boot s run) (noted fs t)).node
     x'_is = up_stepped same members back x ride.up ∙ ap (λ (z : Plan B). z.node) o_is
 
+    opened : is_closed x.learner.floor v.slot ≡ false
+    opened = none_closed x.learner.floor v.slot ride.level least
+
+    -- where it stood, it stands after these
+    stood : standing_of x ≡ standings_from (standing_of y) es
+    stood = (λ i. standings_from (base (ride.rows i)) (ride.log i)) ∙ sym (some_longer (base y.rows) y.applied es)
+
     -- whether the boot ends goes along
     ends_is : has_end n y.rows.boot (standing_of y n) (es ++ fs) ≡ has_end n boot s run
     ends_is =
         has_end_both n y.rows.boot (standing_of y n) es fs
         ∙ ((λ i. ride.stands i || has_end n y.rows.boot (standing_from n (standing_of y n) es) fs)
-        ∙ ((λ i. has_end n y.rows.boot (sym (standing_both n y.applied es) i) fs)
-        ∙ ((λ i. has_end n (sym (ap (λ r. r.boot) ride.rows) i) (standing n (sym ride.log i)) fs)
-        ∙ end_within n boot s run)))
+        ∙ ((λ i. has_end n (sym (ap (λ r. r.boot) ride.rows) i) (sym stood i n) fs)
+        ∙ end_within n boot s run))
 
     log_is : x.applied ++ fs ≡ y.applied ++ (es ++ fs)
     log_is = ap (λ l. l ++ fs) ride.log ∙ append_assoc y.applied es fs
@@ -163,16 +182,17 @@ module _ {B : Type 0} (same : B → B → Bool) (equal : IsEquality same) (membe
               (record {
                 up = ride.up;
                 rows = ride.rows;
+                plain = ride.plain;
+                level = count_floor members k v x.learner ∙ ride.level;
                 role = ride.role;
                 taken = ride.taken;
                 log = log_is;
                 pending =
-                    (λ i. pending_behind (standings (ride.log i)) fs (ride.pending i))
-                    ∙ ((λ i. pending_behind (sym (some_longer y.applied es) i) fs (pending_behind (standing_of y) es y.pending))
-                    ∙ pending_both (standing_of y) es fs y.pending);
+                    (λ i. pending_behind (stood i) fs (ride.pending i))
+                    ∙ pending_both (standing_of y) es fs y.pending;
                 stands = ends_is ∙ e;
-                eights = subst (λ h. AreEights h) (sym (count_heard members k v x.learner)) (eights_more k v x.learner ride.eights);
-                heard = λ p j h. subst (λ l. is_in (nodes_heard p l) j ≡ true) (sym (count_heard members k v x.learner))
+                eights = subst (λ h. AreEights h) (sym (count_heard members k v x.learner opened)) (eights_more k v x.learner ride.eights);
+                heard = λ p j h. subst (λ l. is_in (nodes_heard p l) j ≡ true) (sym (count_heard members k v x.learner opened))
                     (hears_still k v x.learner ride.eights p j (ride.heard p j h));
                 learned = λ slot h. count_keeps members k slot v x.learner (ride.learned slot h);
               }),
@@ -186,10 +206,19 @@ module _ {B : Type 0} (same : B → B → Bool) (equal : IsEquality same) (membe
           ends = ends_is ∙ e;
           logged =
               subst (λ l. Logged members (w.sent ++ o.packets) l)
-              (ap (λ l. x.applied ++ l) (ap (λ (z : Plan B). z.applied) o_is ∙ applied_is (has_end n boot s run)) ∙ log_is)
-              (event_goes same equal members many w (Deliver back) ok sent).logged;
+              (ap (λ l. before ++ l) (ap (λ (z : Plan B). z.applied) o_is ∙ applied_is (has_end n boot s run))
+              ∙ (ap (λ l. l ++ fs) before_is ∙ log_is))
+              (event_goes same equal members many w (Deliver back) ok sent ride.up).logged;
         }
       where
+        before : List (Entry B)
+        before = log_before w (Deliver back) x o
+
+        before_is : before ≡ x.applied
+        before_is =
+            ap (λ z. log_over w x true z) (ap (λ (c : Change B). c.snapshot) (settle_change n t))
+            ∙ (whole_is w.cuts x ride.up ∙ ap (λ z. under w.cuts z ++ x.applied) ride.plain)
+
         applied_is : (g : Bool) → (ended g (noted fs t)).applied ≡ fs
         applied_is true = refl
         applied_is false = refl

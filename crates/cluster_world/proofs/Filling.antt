@@ -1,7 +1,7 @@
 -- After a pass the log is all that was proposed: no shorter, since all was learned; no longer and no other, since a majority holds what is chosen.
 use Rattle.std.proofs.Common.{◌≡◌, ⊎_elim, ℕ, zero, suc, ◌+◌, ◌<◌, ◌≤◌, Bool, true, false, refl, sym, ap, ◌∙◌, subst, arith, List, [], ◌∷◌}
 use Rattle.std.proofs.Common.{◌++◌, map}
-use Rattle.std.proofs.Common.{length, length-append, Some}
+use Rattle.std.proofs.Common.{length, Option, Some, None}
 use Rattle.std.specs.Prelude.{slice_get}
 use Rattle.std.proofs.lemmas.Bool.{cases_lt}
 use Rattle.cluster_world.proofs.EveryWorld.{world_ok}
@@ -13,6 +13,8 @@ use Rattle.cluster_world.specs.Has.{Has}
 use Rattle.paxos_packets.specs.Ballot.{below}
 use Rattle.paxos_packets.specs.Body.{IsEquality}
 use Rattle.paxos_packets.specs.Members.{IsMajority}
+use Rattle.paxos_packets.specs.Snapshot as taken
+use Rattle.paxos_packets.specs.Snapshot.{floor_in}
 use Rattle.paxos_packets.specs.declared.ballot.Ballot.{Ballot}
 use Rattle.paxos_packets.specs.declared.entry.Entry.{Entry}
 use Rattle.paxos_packets.specs.declared.vote.Vote.{Vote}
@@ -20,7 +22,8 @@ use Rattle.paxos_learner.specs.Learned.{is_learned}
 use Rattle.paxos_node.specs.declared.event.Event.{Event}
 use Rattle.cluster_world.specs.Chosen.{Chosen}
 use Rattle.cluster_world.specs.Majorities.{Holds}
-use Rattle.cluster_world.specs.World.{World, node_at, played, log_of}
+use Rattle.paxos_planning.specs.Node.{log_length}
+use Rattle.cluster_world.specs.World.{World, node_at, played}
 use Rattle.world_rescue.specs.Course.{entries_of}
 
 -- lists with the same elements at the same places
@@ -76,21 +79,26 @@ length_map f (x ∷ xs) = ap suc (length_map f xs)
 
 module _ {B : Type 0} (same : B → B → Bool) (equal : IsEquality same) (members : ℕ) (many : 3 ≤ members) (events : List (Event B)) (n : ℕ)
     (b : Ballot)
-    (log es : List (Entry B)) (vs : List (Vote B)) (crew : ℕ → Bool) (most : IsMajority members crew)
-    (chosen : (i : ℕ) (e : Entry B) → slice_get es i ≡ Some e → Chosen members (played same members events).sent (suc (length log + i)) e)
-    (after : AreAfter (length log) vs)
+    (long : ℕ) (es : List (Entry B)) (vs : List (Vote B)) (crew : ℕ → Bool) (most : IsMajority members crew)
+    (chosen : (i : ℕ) (e : Entry B) → slice_get es i ≡ Some e → Chosen members (played same members events).sent (suc (long + i)) e)
+    (after : AreAfter (long) vs)
     (voted : (v : Vote B) → Has vs v → Has (node_at (played same members events).nodes n).rows.votes v)
     (mine : (v : Vote B) → Has vs v → v.ballot ≡ b)
     (promised : (k : ℕ) → crew k ≡ true → (node_at (played same members events).nodes k).rows.promised ≡ Some b)
     (short : (k : ℕ) (v : Vote B) → crew k ≡ true → Has (node_at (played same members events).nodes k).rows.votes v
-    → v.slot ≤ length log + length vs) where
+    → v.slot ≤ long + length vs)
+    (flat : (k : ℕ) → crew k ≡ true → (node_at (played same members events).nodes k).rows.snapshot ≡ None) where
   abbrev w : World B
   w = played same members events
 
   -- what the crew holds of an entry after the old log
-  held : (i : ℕ) (e : Entry B) → slice_get es i ≡ Some e → Holds members w.nodes crew (suc (length log + i)) e
+  held : (i : ℕ) (e : Entry B) → slice_get es i ≡ Some e → Holds members w.nodes crew (suc (long + i)) e
   held i e h =
-      majorities_hold same equal members many events (suc (length log + i)) e (chosen i e h) crew most
+      majorities_hold same equal members many events (suc (long + i)) e (chosen i e h) crew most
+      (λ k m t. subst (λ (o : Option taken.Snapshot). floor_in o < suc (long + i)) (sym (flat k t)) (above (long + i)))
+    where
+      above : (a : ℕ) → 0 < suc a
+      above a = omega arith
 
   none_beyond : length es ≤ length vs
   none_beyond = ⊎_elim (λ (l : length vs < length es). absurd (go l)) (λ l. l) (cases_lt (length vs) (length es))
@@ -99,7 +107,7 @@ module _ {B : Type 0} (same : B → B → Bool) (equal : IsEquality same) (membe
       go l =
           let g = get_some es (length vs) l in
           let k = held (length vs) g.0 g.1 in
-          past (length log) (length vs) (short k.node (record { slot = suc (length log + length vs); ballot = k.ballot; entry = g.0 })
+          past (long) (length vs) (short k.node (record { slot = suc (long + length vs); ballot = k.ballot; entry = g.0 })
           k.within k.has)
         where
           past : (a c : ℕ) → suc (a + c) ≤ a + c → ⊥
@@ -113,7 +121,7 @@ module _ {B : Type 0} (same : B → B → Bool) (equal : IsEquality same) (membe
   -- each is the entry proposed there
   pub at : (i : ℕ) (e : Entry B) → slice_get es i ≡ Some e → slice_get (entries_of vs) i ≡ Some e
   at i e h =
-      let a = after_at (length log) i vs after (less (within es i e h) none_beyond) in
+      let a = after_at (long) i vs after (less (within es i e h) none_beyond) in
       let k = held i e h in
       get_map (λ (v : Vote B). v.entry) vs i a.0 a.1
       ∙ ap (λ z. Some z) (k.above n a.0 (voted a.0 a.2) a.3 (subst (λ c. below c k.ballot ≡ false) (sym (mine a.0 a.2)) (not_below k)))
@@ -122,14 +130,14 @@ module _ {B : Type 0} (same : B → B → Bool) (equal : IsEquality same) (membe
       less g l = omega arith
 
       -- nobody in the crew has a vote above the ballot
-      not_below : (k : Holds members w.nodes crew (suc (length log + i)) e) → below b k.ballot ≡ false
+      not_below : (k : Holds members w.nodes crew (suc (long + i)) e) → below b k.ballot ≡ false
       not_below k = go (below b k.ballot) refl
         where
           low : Reaches (Some b) k.ballot
           low =
               subst (λ p. Reaches p k.ballot) (promised k.node k.within)
               (((world_ok same equal members (omega arith) events).inv.nodes k.node).rows.low
-              (record { slot = suc (length log + i); ballot = k.ballot; entry = e }) k.has)
+              (record { slot = suc (long + i); ballot = k.ballot; entry = e }) k.has)
 
           go : (g : Bool) → below b k.ballot ≡ g → below b k.ballot ≡ false
           go true t = absurd (apart low)
@@ -143,20 +151,20 @@ module _ {B : Type 0} (same : B → B → Bool) (equal : IsEquality same) (membe
   first_of = begins es (entries_of vs) at
 
   -- and all of them, if the log ends with them, and all slots were learned
-  module _ (log_is : log_of w n ≡ log ++ es)
+  module _ (log_is : log_length (node_at w.nodes n) ≡ long + length es)
       (learned : (v : Vote B) → Has vs v → is_learned v.slot (node_at w.nodes n).learner.learned ≡ true) where
     none_missing : length vs ≤ length es
     none_missing = ⊎_elim (λ (l : length es < length vs). absurd (go l)) (λ l. l) (cases_lt (length es) (length vs))
       where
         go : length es < length vs → ⊥
         go l =
-            let a = after_at (length log) (length es) vs after l in
+            let a = after_at (long) (length es) vs after l in
             off
             (sym (nothing_waits same members events n)
             ∙ (ap (λ k. is_learned k (node_at w.nodes n).learner.learned) (next ∙ sym a.3) ∙ learned a.0 a.2))
           where
-            next : suc (length (log_of w n)) ≡ suc (length log + length es)
-            next = ap (λ (l : List (Entry B)). suc (length l)) log_is ∙ ap suc (length-append log es)
+            next : suc (log_length (node_at w.nodes n)) ≡ suc (long + length es)
+            next = ap suc log_is
 
             off : false ≡ true → ⊥
             off e = cc

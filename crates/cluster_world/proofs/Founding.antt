@@ -12,9 +12,10 @@ use Rattle.replica_machine.specs.Replay.{Machine}
 use Rattle.replica_follower.specs.Following.{Followed, Follows}
 use Rattle.replica_follower.specs.Handed.{said_in}
 use Rattle.cluster_world.specs.Members.{MemberState, machines_of, AreMembers, held_of}
-use Rattle.cluster_world.specs.StandsAt.{told_by, machine_at, Shows, LoadsFirst, StandsIn}
-use Rattle.cluster_world.specs.World.{founded, first_boots, first_world, node_at}
+use Rattle.cluster_world.specs.StandsAt.{told_by, machine_at, under_at, Shows, LoadsFirst, StandsIn}
+use Rattle.cluster_world.specs.World.{founded, first_boots, first_world, node_at, under}
 use Rattle.cluster_world.specs.Founding.{HasBegun, AreFounded, AllFollow, NoneGivenUp}
+use Rattle.cluster_world.proofs.Lists.{has_nil}
 use Rattle.cluster_world.proofs.Replacing.{get_unmap, some_same}
 use Rattle.cluster_world.proofs.EveryWorld.{plain_at}
 
@@ -95,10 +96,15 @@ stands_first {B} {M} {S} {Y} content loaded m members list made first f n all lo
       follows =
           λ i g h.
           let s = get_unmap (λ (z : MemberState B M Y). z.machine) list i g h in
-          subst (λ (z : Followed B M Y). Follows content m [] z) s.2 (all i s.0 s.1);
+          subst (λ below. Follows content m below g) (sym (none_under (suc i)))
+          (subst (λ (z : Followed B M Y). Follows content m [] z) s.2 (all i s.0 s.1));
       loads = loads;
+      cuts = λ c h. absurd (has_nil h);
     }
   where
+    none_under : (k : ℕ) → under_at (first_world {B = B} members) k ≡ []
+    none_under k = ap (λ o. under {B = B} [] o) (plain_at {B = B} members k).snapshot
+
     told_some : (o : Option (Followed B M Y)) (i : ℕ) (t : Transport) → slice_get (machines_of list) i ≡ o → told_by o t ≡ []
     told_some None i t h = refl
     told_some (Some g) i t h =

@@ -1,26 +1,28 @@
 -- The entries of each log are ones: of nodes 1 to 7, with boots and Items from 1 on, and transports from 1 on.
-use Rattle.std.proofs.Common.{◌≡◌, ⊎_elim, ℕ, zero, suc, ◌<◌, ◌≤◌, Bool, true, false, not, ◌&&◌, leb, refl, sym, subst, ◌∙◌, arith}
+use Rattle.std.proofs.Common.{◌≡◌, ⊎_elim, ℕ, zero, suc, ◌<◌, ◌≤◌, Bool, true, false, not, ◌&&◌, leb, refl, sym, ap, subst, ◌∙◌, arith}
 use Rattle.std.proofs.Common.{List, [], ◌∷◌, ◌++◌, append_assoc, append-nil}
 use Rattle.std.specs.Prelude.{All, nat_lt}
 use Rattle.std.proofs.lemmas.Bool.{cond_both, cases_eq, and_parts, and_from, le-leb, ltb-true}
 use Rattle.std.proofs.lemmas.List.Elements.{All-nil, All-cons}
-use Rattle.cluster_world.proofs.Applied.{in_every}
+use Rattle.cluster_world.proofs.Heads.{stands}
 use Rattle.cluster_world.proofs.Booting.{new_lost_suspects, suspected_has}
 use Rattle.cluster_world.proofs.EveryWorld.{within, node_same, node_other, play_on}
-use Rattle.cluster_world.proofs.Handing.{Ran, Began, event_cases}
+use Rattle.cluster_world.proofs.Standing.{Ran, Began, event_cases}
 use Rattle.cluster_world.proofs.Lists.{has_nil, has_one, has_cases}
-use Rattle.cluster_world.proofs.Pending.{founded_each}
-use Rattle.cluster_world.proofs.Taking.{by_next, nodes_length, log_was_made}
+use Rattle.cluster_world.proofs.Taking.{by_next, in_every, founded_each, nodes_length, log_was_made}
 use Rattle.cluster_world.specs.Has.{Has, here, there}
 use Rattle.paxos_packets.specs.Body.{IsEquality}
 use Rattle.paxos_packets.specs.Rows.{last_boot}
 use Rattle.paxos_packets.specs.declared.entry.Entry.{Entry}
 use Rattle.paxos_packets.specs.declared.entry.Entry.TheVariants.{Boot}
+use Rattle.paxos_node.specs.Applying.{standing_of}
+use Rattle.paxos_node.specs.Snapshots.{may_cut}
 use Rattle.paxos_node.specs.Events.{last_number, has_room, takes, new_item, new_lost, owner, possible, outcome_of, made_by}
 use Rattle.paxos_node.specs.declared.event.Event.{Event}
-use Rattle.paxos_node.specs.declared.event.Event.TheVariants.{Take, Tick, Start, Suspect, Deliver, Crash, Restart}
+use Rattle.paxos_node.specs.declared.event.Event.TheVariants.{Take, Tick, Start, Suspect, Deliver, Cut, Crash, Restart}
 use Rattle.paxos_planning.specs.Node.{NodeState, Plan}
 use Rattle.replica_machine.proofs.Snapshots.{live_given}
+use Rattle.replica_machine.specs.Roll.{standing, live_in}
 use Rattle.replica_machine.specs.Given.{is_node, is_number, is_given_entry, AreGiven}
 use Rattle.cluster_world.specs.Origins.{LogsAreGiven}
 use Rattle.cluster_world.specs.World.{World, node_at, put_node, first_boots, first_world, next, played, log_of}
@@ -70,9 +72,10 @@ IsOne e = is_given_entry e ≡ true
 
 module _ {B : Type 0} (same : B → B → Bool) where
   -- what an event makes, at a node whose number, boot and log are ones
-  makes_ones : (e : Event B) (x : NodeState B) → possible e x ≡ true → is_node (owner e) ≡ true → is_number x.rows.boot ≡ true → AreGiven x.applied
+  makes_ones : (e : Event B) (x : NodeState B) (log : List (Entry B)) → possible e x ≡ true → is_node (owner e) ≡ true
+      → is_number x.rows.boot ≡ true → AreGiven log → (x.up ≡ true → (k : ℕ) → standing_of x k ≡ standing k log)
       → (y : Entry B) → Has (made_by same e x) y → IsOne y
-  makes_ones (Take n t body) x p node boot log y h =
+  makes_ones (Take n t body) x log p node boot given stood y h =
       cond_both (takes x) (new_item n t body x ∷ []) [] (λ (l : List (Entry B)). Has l y → IsOne y)
       (λ k g. subst (λ (z : Entry B). IsOne z) (has_one g)
       (and_from (is_node n && (is_number x.rows.boot && leb 1 t)) (is_number (suc x.taken))
@@ -81,14 +84,15 @@ module _ {B : Type 0} (same : B → B → Bool) where
       (count_up x.taken (ltb-true x.taken last_number (and_parts (has_room x) (nat_lt x.taken last_number) k).1))))
       (λ k g. absurd (has_nil g))
       h
-  makes_ones (Suspect m other) x p node boot log y h =
+  makes_ones (Suspect m other) x log p node boot given stood y h =
       let r = suspected_has other x (new_lost same m other x) (new_lost_suspects same m other x) y h in
-      subst (λ (z : Entry B). IsOne z) (sym r.1) (live_given other x.applied r.0 log r.2)
-  makes_ones (Restart m) x p node boot log y h =
+      subst (λ (z : Entry B). IsOne z) (sym r.1)
+      (live_given other log r.0 given (ap (λ s. live_in s) (sym (stood p other)) ∙ r.2))
+  makes_ones (Restart m) x log p node boot given stood y h =
       subst (λ (z : Entry B). IsOne z) (has_one h)
       (and_from (is_node m) (is_number (suc x.rows.boot)) node
       (boot_up x.rows.boot (ltb-true x.rows.boot last_boot (and_parts (not x.up) (nat_lt x.rows.boot last_boot) p).1)))
-  makes_ones _ x p node boot log y h = absurd (has_nil h)
+  makes_ones _ x log p node boot given stood y h = absurd (has_nil h)
 
   module _ (members : ℕ) where
     off : false ≡ true → ⊥
@@ -110,6 +114,7 @@ module _ {B : Type 0} (same : B → B → Bool) where
     boot_on (Start n) x p h = ran_boot (Start n) x p p h
     boot_on (Suspect n other) x p h = ran_boot (Suspect n other) x p p h
     boot_on (Deliver q) x p h = ran_boot (Deliver q) x p p h
+    boot_on (Cut n o) x p h = ran_boot (Cut n o) x (and_parts x.up (may_cut o x) p).0 p h
     boot_on (Crash n) x p h = ran_boot (Crash n) x p p h
     boot_on (Restart n) x p h =
         boot_up x.rows.boot (ltb-true x.rows.boot last_boot (and_parts (not x.up) (nat_lt x.rows.boot last_boot) p).1)
@@ -136,7 +141,7 @@ module _ {B : Type 0} (same : B → B → Bool) where
         (λ k. founded_each (λ i (x : NodeState B). is_number x.rows.boot ≡ true) (λ i. refl) (λ i. last_is) members k)
 
     module _ (equal : IsEquality same) (few : members ≤ 7) where
-      abbrev MadeOnes : World B → Type 0
+      abbrev pub MadeOnes : World B → Type 0
       MadeOnes w = (y : Entry B) → Has w.made y → IsOne y
 
       log_ones : (events : List (Event B)) → MadeOnes (played same members events) → (k : ℕ) → AreGiven (log_of (played same members events) k)
@@ -150,9 +155,9 @@ module _ {B : Type 0} (same : B → B → Bool) where
           (by_next same members (λ z. MadeOnes z) w e all
           (λ m y i. ⊎_elim (λ a. all y a)
           (λ a. let at = within w.nodes e (owner e) m.1 in
-          makes_ones e (node_at w.nodes (owner e)) m.1
+          makes_ones e (node_at w.nodes (owner e)) (log_of w (owner e)) m.1
           (node_one members at.i (owner e) few (subst (λ l. at.i < l) (nodes_length same members early) at.low) at.is)
-          (boots_are_ones early (owner e)) (log_ones early all (owner e)) y a)
+          (boots_are_ones early (owner e)) (log_ones early all (owner e)) (λ u k. stands same equal members few early (owner e) u k) y a)
           (has_cases w.made (made_by same e (node_at w.nodes (owner e))) i)))
         where
           w : World B
@@ -178,11 +183,14 @@ module _ {B : Type 0} (same : B → B → Bool) where
           in_range : suc k ≤ members → k < members
           in_range g = omega arith
 
-      pub log_is_given : (events : List (Event B)) (k : ℕ) → AreGiven (log_of (played same members events) k)
-      log_is_given events k = log_ones events (made_play events [] (λ y h. first_ones members (itself members) y h)) k
+      pub made_are_ones : (events : List (Event B)) → MadeOnes (played same members events)
+      made_are_ones events = made_play events [] (λ y h. first_ones members (itself members) y h)
         where
           itself : (a : ℕ) → a ≤ a
           itself a = omega arith
+
+      pub log_is_given : (events : List (Event B)) (k : ℕ) → AreGiven (log_of (played same members events) k)
+      log_is_given events k = log_ones events (made_are_ones events) k
 
 pub logs_are_given : {B : Type 0} (same : B → B → Bool) → IsEquality same → LogsAreGiven B same
 logs_are_given same equal members few events node = log_is_given same members equal few events node

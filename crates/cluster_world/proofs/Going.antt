@@ -1,6 +1,6 @@
 -- A leader whose pass is done takes the act, and passes what is still pending and the act: then its log ends with the act's Item.
 use Rattle.std.proofs.Common.{◌≡◌, ⊎_elim, ℕ, suc, ◌+◌, ◌<◌, ◌≤◌, Bool, true, false, eqb, refl, sym, ap, ◌∙◌, subst, arith}
-use Rattle.std.proofs.Common.{List, [], ◌∷◌, ◌++◌, length, length-append, append_assoc, append-nil}
+use Rattle.std.proofs.Common.{List, [], ◌∷◌, ◌++◌, length, length-append, append_assoc, append-nil, None}
 use Rattle.std.specs.Prelude.{nat_lt}
 use Rattle.std.proofs.lemmas.Bool.{cond-true, and_from, lt-ltb, eq-eqb}
 use Rattle.std.proofs.lemmas.List.Sums.{fold-append}
@@ -11,7 +11,7 @@ use Rattle.cluster_world.proofs.Chaining.{Chain, Finished, finishes}
 use Rattle.cluster_world.proofs.Concluding.{Ending, Rode_on, Went_down, concludes, put_all_cases, slots_within}
 use Rattle.cluster_world.proofs.Ends.{standing_both}
 use Rattle.cluster_world.proofs.EventsAtOnce.{all_rest}
-use Rattle.cluster_world.proofs.EveryWorld.{WorldOk, world_ok, play_on}
+use Rattle.cluster_world.proofs.EveryWorld.{WorldOk, world_ok, play_on, whole_is}
 use Rattle.cluster_world.proofs.Filling.{length_map}
 use Rattle.cluster_world.proofs.Invariant.{VoteOf, LeadingOk, RoleOk, promises}
 use Rattle.cluster_world.proofs.Leading.{Bids, LeadsBy, pushes}
@@ -35,7 +35,7 @@ use Rattle.paxos_proposer.specs.Proposals.{behind}
 use Rattle.paxos_proposer.specs.Proposer.{slot_end, next_vote}
 use Rattle.paxos_proposer.specs.Proposing.{proposals_of}
 use Rattle.paxos_proposer.specs.Role.{Role, Leading}
-use Rattle.paxos_node.specs.Applying.{standing_of, settle, has_end}
+use Rattle.paxos_node.specs.Applying.{standing_of, stands_at, settle, has_end}
 use Rattle.paxos_node.specs.Events.{takes, with_item, last_number, most_pending, possible, outcome_of}
 use Rattle.paxos_node.specs.declared.event.Event.{Event}
 use Rattle.paxos_node.specs.declared.event.Event.TheVariants.{Take}
@@ -45,8 +45,8 @@ use Rattle.paxos_planning.specs.Proposals.{push}
 use Rattle.replica_machine.proofs.Places.{effective_is}
 use Rattle.replica_machine.specs.Effects.{is_effective}
 use Rattle.replica_machine.specs.declared.roll.Standing.TheVariants.{Live}
-use Rattle.replica_machine.specs.Roll.{standing, is_next}
-use Rattle.cluster_world.specs.World.{World, node_at, first_world, next, play, played, log_of}
+use Rattle.replica_machine.specs.Roll.{standing, standing_from, is_next}
+use Rattle.cluster_world.specs.World.{World, node_at, first_world, next, play, played, under, log_of}
 use Rattle.cluster_world.specs.Rescue.{Apart, EndsWithAct}
 use Rattle.world_rescue.specs.Course.{Seat, pass, entries_of, propose_new}
 
@@ -123,6 +123,8 @@ module _ {B : Type 0} (same : B → B → Bool) (equal : IsEquality same) (membe
         promised = d.promised;
         cast = d.votes;
         role = role_z;
+        level = ride.level;
+        from_one = one d.next_is;
         learned = refl;
         log = refl;
         pending = refl;
@@ -133,6 +135,9 @@ module _ {B : Type 0} (same : B → B → Bool) (equal : IsEquality same) (membe
         mine = d.mine;
         out = λ v h j m e. has_left [] (d.out v h j m e);
       }
+    where
+      one : {a c : ℕ} → a ≡ suc c → 1 ≤ a
+      one e = omega arith
 
   abbrev pub role2 : Role B
   role2 = propose_new same (log_length z) (z.pending ++ item ∷ []) (Leading ballot d.next vs)
@@ -167,7 +172,7 @@ module _ {B : Type 0} (same : B → B → Bool) (equal : IsEquality same) (membe
   outcome_is : outcome_of same members act z ≡ pushed
   outcome_is =
       ap (λ (o : Plan B). settle n o) (cond-true (takes z) pushed (begun z) takes_is)
-      ∙ settle_rest n pushed ((λ i. run_from (suc (length (goes.0.log i))) (goes.0.learned i)) ∙ all_rest same members before n)
+      ∙ settle_rest n pushed ((λ i. run_from (suc (floor_in (goes.0.base i) + length (goes.0.log i))) (goes.0.learned i)) ∙ all_rest same members before n)
 
   at_v : node_at v.nodes n ≡ pushed.node
   at_v =
@@ -210,6 +215,7 @@ module _ {B : Type 0} (same : B → B → Bool) (equal : IsEquality same) (membe
         promised = ap (λ (x : NodeState B). x.rows.promised) e ∙ r.promised;
         votes_are = refl;
         plain = ap (λ (x : NodeState B). x.rows.snapshot) e ∙ r.plain;
+        level = ap (λ (x : NodeState B). x.learner.floor) e ∙ r.level;
         own = subst (λ (x : NodeState B). HeardFrom ballot 0 s.number x.learner) (sym e) r.own;
         rests = subst (λ x. AtRest x) (sym e) r.rests;
       }
@@ -217,17 +223,32 @@ module _ {B : Type 0} (same : B → B → Bool) (equal : IsEquality same) (membe
   abbrev pub vs2 : List (Vote B)
   vs2 = behind (log_length z) (proposals_of role2)
 
+  flat_x : x2.rows.snapshot ≡ None
+  flat_x = bids.base ∙ d.plain
+
+  bare : log_length z ≡ length z.applied
+  bare = ap (λ o. floor_in o + length z.applied) d.plain ∙ none_under (length z.applied)
+    where
+      none_under : (a : ℕ) → 0 + a ≡ a
+      none_under a = omega arith
+
+  long_x : log_length x2 ≡ log_length z
+  long_x = λ i. floor_in (bids.base i) + length (bids.log i)
+
   passed : Passed same equal members two n member round x2 seats (λ j. (node_at p.nodes j).rows.votes) vs2 [] p
       (play same members (pass n seats vs2) p)
   passed =
       carries same equal members two n member low round p (world_ok same equal members two taken_events) k.votes y role2 bids seats apart
       others lows
-      enough (log_length z) ready
+      enough flat_x (log_length z) ready
 
   -- each other node that was up stays up
+  still_seat : (s : Seat B) → Has seats s → (j : ℕ) → s.number ≡ j → (node_at (play same members (pass n seats vs2) p).nodes j).up ≡ true
+  still_seat s i j e = subst (λ a. (node_at (play same members (pass n seats vs2) p).nodes a).up ≡ true) e (passed.helpers s i).up
+
   still : (j : ℕ) → (j ≡ n → ⊥) → (node_at q.nodes j).up ≡ true → (node_at (play same members (pass n seats vs2) p).nodes j).up ≡ true
   still j e h =
-      ⊎_elim (λ s. subst (λ i. (node_at (play same members (pass n seats vs2) p).nodes i).up ≡ true) s.2 (passed.helpers s.0 s.1).up)
+      ⊎_elim {C = (node_at (play same members (pass n seats vs2) p).nodes j).up ≡ true} (λ s. still_seat s.0 s.1 j s.2)
       (λ g. ap (λ (x : NodeState B). x.up)
       (passed.others j e g ∙ (ap (λ (w : World B). node_at w.nodes j) p_is ∙ m.others j e)) ∙ h)
       (seat_or_not seats j)
@@ -236,8 +257,9 @@ module _ {B : Type 0} (same : B → B → Bool) (equal : IsEquality same) (membe
 
   z_length : log_length z ≡ length k.log + length vs
   z_length =
-      ap (λ (l : List (Entry B)). length l) ride.log
-      ∙ (length-append k.log (entries_of vs) ∙ ap (λ c. length k.log + c) (length_map (λ (u : Vote B). u.entry) vs))
+      bare
+      ∙ (ap (λ (l : List (Entry B)). length l) ride.log
+      ∙ (length-append k.log (entries_of vs) ∙ ap (λ c. length k.log + c) (length_map (λ (u : Vote B). u.entry) vs)))
 
   old : (u : Vote B) → Has vs u → u.slot ≤ log_length z
   old u h = subst (λ c. u.slot ≤ c) (sym z_length) (slots_within (length k.log) vs u d.after h)
@@ -283,7 +305,7 @@ module _ {B : Type 0} (same : B → B → Bool) (equal : IsEquality same) (membe
 
     short : (j : ℕ) (u : Vote B) → d.crew j ≡ true → Has (node_at p.nodes j).rows.votes u → u.slot ≤ log_length x2 + length vs2
     short j u c h =
-        subst (λ a. u.slot ≤ a + length vs2) (sym (ap (λ (l : List (Entry B)). length l) bids.log))
+        subst (λ a. u.slot ≤ a + length vs2) (sym long_x)
         (subst (λ l. u.slot ≤ log_length z + length l) (sym vs2_is)
         (⊎_elim (λ (e : j ≡ n). mine (subst (λ i. Has (node_at p.nodes i).rows.votes u) e h) e) (λ s. helper s.0 s.1 s.2) (d.in_crew j c)))
       where
@@ -313,18 +335,18 @@ module _ {B : Type 0} (same : B → B → Bool) (equal : IsEquality same) (membe
         concludes same equal members three two n member round taken_events (pass n seats vs2) seats vs2 (proposals_of role2) k.votes
         (length k.log)
         passed
-        (subst (λ a. AreAfter a vs2) (sym (ap (λ (l : List (Entry B)). length l) bids.log))
+        (subst (λ a. AreAfter a vs2) (sym long_x)
         (subst (λ l. AreAfter (log_length z) l) (sym vs2_is) rest_is.1))
         (subst (λ l. AreAfter (length k.log) l) (sym table_is) after_all)
         (λ u h. has_filter (λ (w : Vote B). nat_lt (log_length z) w.slot) (proposals_of role2) h) bids.cast bids.promised
         (λ u h. bids.mine u (has_filter (λ (w : Vote B). nat_lt (log_length z) w.slot) (proposals_of role2) h)) d.crew d.enough
-        d.in_crew short
+        d.in_crew short flat_x
 
     abbrev final : World B
     final = play same members (pass n seats vs2) p
 
     no_end_is : has_end n x2.rows.boot (standing_of x2 n) (entries_of vs2) ≡ false
-    no_end_is = (λ i. has_end n (bids.boot i) (standing n (bids.log i)) (entries_of (vs2_is i))) ∙ f.ends
+    no_end_is = (λ i. has_end n (bids.boot i) (standing_from n (stands_at (bids.base i) n) (bids.log i)) (entries_of (vs2_is i))) ∙ f.ends
 
     ends_with : EndsWithAct final n transport body
     ends_with = go ending
@@ -343,7 +365,8 @@ module _ {B : Type 0} (same : B → B → Bool) (equal : IsEquality same) (membe
               takes_effect =
                   ap (λ b. is_effective (z.applied ++ entries_of f.ws) (Item n b (suc z.taken) transport body)) boot_is
                   ∙ last_effective n z.rows.boot z.taken transport body (z.applied ++ entries_of f.ws)
-                  (standing_both n z.applied (entries_of f.ws) ∙ f.stands_is);
+                  (standing_both n z.applied (entries_of f.ws)
+                  ∙ ((λ i. standing_from n (standing_from n (stands_at (sym d.plain i) n) z.applied) (entries_of f.ws)) ∙ f.stands_is));
             }
           where
             boot_is : (node_at final.nodes n).rows.boot ≡ z.rows.boot
@@ -351,9 +374,10 @@ module _ {B : Type 0} (same : B → B → Bool) (equal : IsEquality same) (membe
 
             log_is : log_of final n ≡ (z.applied ++ entries_of f.ws) ++ item ∷ []
             log_is =
-                r.log
+                whole_is final.cuts (node_at final.nodes n) r.up ∙ ((λ i. under final.cuts (r.plain i) ++ (node_at final.nodes n).applied)
+                ∙ (r.log
                 ∙ ((λ i. bids.log i ++ entries_of (vs2_is i))
-                ∙ (ap (λ l. z.applied ++ l) f.entries ∙ sym (append_assoc z.applied (entries_of f.ws) (item ∷ []))))
+                ∙ (ap (λ l. z.applied ++ l) f.entries ∙ sym (append_assoc z.applied (entries_of f.ws) (item ∷ []))))))
 
     pub leads_on : EndsWithAct final n transport body
         × ((j : ℕ) → (j ≡ n → ⊥) → (node_at q.nodes j).up ≡ true → (node_at final.nodes j).up ≡ true)

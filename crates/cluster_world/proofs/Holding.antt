@@ -1,5 +1,6 @@
 -- Each majority holds what is chosen, and a ballot that its own node has not promised is fresh.
-use Rattle.std.proofs.Common.{◌≡◌, ℕ, Bool, true, sym, ◌∙◌, subst, arith, List, Option, Some, None}
+use Rattle.std.proofs.Common.{◌≡◌, ℕ, Bool, true, subst, arith, List, Option, Some, None}
+use Rattle.cluster_world.proofs.Active.{is_high}
 use Rattle.paxos_packets.proofs.Meeting.{common_member}
 use Rattle.cluster_world.proofs.Agreeing.{chosen_in}
 use Rattle.cluster_world.proofs.EveryWorld.{WorldOk, world_ok}
@@ -9,7 +10,6 @@ use Rattle.cluster_world.proofs.Order.{Le, Reaches, reach, le_trans, lt_not_le, 
 use Rattle.paxos_acceptor.specs.Acceptor.{may_promise}
 use Rattle.paxos_packets.specs.Body.{IsEquality}
 use Rattle.paxos_packets.specs.Members.{IsMember}
-use Rattle.paxos_packets.specs.Snapshot as taken
 use Rattle.paxos_packets.specs.declared.ballot.Ballot.{Ballot}
 use Rattle.paxos_packets.specs.declared.packet.Kind.{Kind}
 use Rattle.paxos_packets.specs.declared.packet.Kind.TheVariants.{Accept}
@@ -32,7 +32,7 @@ known_in {k = k} s = record { by = k; is = sent_in s }
 
 module _ {B : Type 0} (same : B → B → Bool) (equal : IsEquality same) where
   pub majorities_hold : MajoritiesHold B same
-  majorities_hold members l events slot e c set most =
+  majorities_hold members l events slot e c set most high =
       record {
         node = k.0;
         member = k.1;
@@ -60,10 +60,7 @@ module _ {B : Type 0} (same : B → B → Bool) (equal : IsEquality same) where
 
       t : Tops (node_at w.nodes k.0).rows.votes (vote slot d.ballot e)
       t = (inv.nodes k.0).rows.tops (vote slot d.ballot e) (d.voted k.0 k.1 k.3)
-          (λ s i. absurd (none s (sym (ok.plain k.0) ∙ i)))
-        where
-          none : (s : taken.Snapshot) → None ≡ Some s → ⊥
-          none s e = cc
+          (is_high (node_at w.nodes k.0).rows.snapshot slot (high k.0 k.1 k.2))
 
       entry : (j : ℕ) (v : Vote B) → HasVote w.nodes j v → v.slot ≡ slot → Le d.ballot v.ballot → v.entry ≡ e
       entry j v h s a =

@@ -42,6 +42,12 @@ LeadsBy b most Idle = ⊥
 LeadsBy b most (Preparing c first cs) = ⊥
 LeadsBy b most (Leading c next table) = (c ≡ b) × (next ≤ most)
 
+-- a leader goes on in no slot 0
+abbrev pub FromOne : {B : Type 0} → Role B → Type 0
+FromOne Idle = Unit {0}
+FromOne (Preparing c first cs) = Unit {0}
+FromOne (Leading c next table) = 1 ≤ next
+
 -- from which slot on nobody else can have been heard: from the next one of a leader
 abbrev pub fresh_from : {B : Type 0} → Role B → ℕ
 fresh_from Idle = 0
@@ -109,6 +115,8 @@ module _ {B : Type 0} (same : B → B → Bool) (members : ℕ) (many : 2 ≤ me
     pub promised : x.rows.promised ≡ Some b
     pub cast : x.rows.votes ≡ put_votes (proposals_of r) votes
     pub role : x.proposer.role ≡ r
+    pub level : x.learner.floor ≡ 0
+    pub from_one : FromOne r
     pub learned : x.learner.learned ≡ y.learner.learned
     pub log : x.applied ≡ y.applied
     pub pending : x.pending ≡ y.pending
@@ -136,6 +144,8 @@ module _ {B : Type 0} (same : B → B → Bool) (members : ℕ) (many : 2 ≤ me
           promised = refl;
           cast = ap (put_vote v) ok.cast ∙ sym (fold-append (λ us w. put_vote w us) votes table (v ∷ []));
           role = cond-false (below b b) Idle (Leading b (suc next) (table ++ v ∷ [])) (irreflexive b);
+          level = ap (λ (x : LearnerState B). x.floor) quiet ∙ ok.level;
+          from_one = omega arith;
           learned = ap (λ (x : LearnerState B). x.learned) quiet ∙ ok.learned;
           log = ok.log;
           pending = ok.pending;
@@ -170,7 +180,7 @@ module _ {B : Type 0} (same : B → B → Bool) (members : ℕ) (many : 2 ≤ me
             ap (λ r. propose_as same members n r e t) ok.role ∙ cond-true (nat_lt next slot_end) u t (lt-ltb next slot_end l)
 
         quiet : count_vote members n v t.node.learner ≡ hears n v t.node.learner
-        quiet = counts_own members many b next n v t.node.learner refl (omega arith) ok.own
+        quiet = counts_own members many b next n v t.node.learner ok.level ok.from_one refl (omega arith) ok.own
 
     -- it goes on as a leader
     abbrev pub Goes : ℕ → Plan B → Role B → Type 0
@@ -203,7 +213,7 @@ module _ {B : Type 0} (same : B → B → Bool) (members : ℕ) (many : 2 ≤ me
         f = less_one next (length es) most l m
 
         same_test : stands same (log_length t.node) t.node.proposer.role e ≡ stands same (log_length y) (Leading b next table) e
-        same_test = λ i. stands same (length (ok.log i)) (ok.role i) e
+        same_test = λ i. stands same (floor_in (ok.base i) + length (ok.log i)) (ok.role i) e
 
         less : next + suc (length es) ≤ most → next + length es ≤ most
         less h = omega arith
@@ -312,8 +322,8 @@ module _ {B : Type 0} (same : B → B → Bool) (members : ℕ) (many : 2 ≤ me
         known (Leading d next table) q = q
 
         -- the ballot is idle but for this
-        bare : (r : Role B) → proposals_of r ≡ [] → At (record t { node = with_role r t.node }) r
-        bare r none =
+        bare : (r : Role B) → proposals_of r ≡ [] → FromOne r → At (record t { node = with_role r t.node }) r
+        bare r none from_one =
             record {
               up = ok.up;
               boot = ok.boot;
@@ -321,6 +331,8 @@ module _ {B : Type 0} (same : B → B → Bool) (members : ℕ) (many : 2 ≤ me
               promised = ok.promised;
               cast = ok.cast ∙ ap (λ l. put_votes l votes) (sym none);
               role = refl;
+              level = ok.level;
+              from_one = from_one;
               learned = ok.learned;
               log = ok.log;
               pending = ok.pending;
@@ -332,6 +344,9 @@ module _ {B : Type 0} (same : B → B → Bool) (members : ℕ) (many : 2 ≤ me
               out = λ v i. absurd (has_nil (subst (λ l. Has l v) none i));
             }
 
+        least : {a : ℕ} → own < a → 1 ≤ a
+        least l = omega arith
+
         LedAt : ℕ → ℕ → Type 0
         LedAt a d =
             Both (push same members n (lead same members n c a (reports more) t))
@@ -340,7 +355,7 @@ module _ {B : Type 0} (same : B → B → Bool) (members : ℕ) (many : 2 ≤ me
         led_first : LedAt f f
         led_first =
             let g =
-            leads f past most es (record t { node = with_role (Leading b f []) t.node }) (bare (Leading b f []) refl)
+            leads f past most es (record t { node = with_role (Leading b f []) t.node }) (bare (Leading b f []) refl (least own_at))
             (subst (λ z. z + length (called_for z (reports more)) ≤ past) (sym e.1) (called_below first past (reports more) low' all_below))
             room h in
             subst
@@ -352,7 +367,7 @@ module _ {B : Type 0} (same : B → B → Bool) (members : ℕ) (many : 2 ≤ me
         led = subst (λ (z : ℕ × ℕ). LedAt z.0 z.1) (λ i. (sym mine_is i, sym own_is i)) led_first
 
         waits : Both (record t { node = with_role (Preparing c f more) t.node }) (Preparing c f more)
-        waits = (bare (Preparing c f more) refl, (e.0, e.1, all_below, floors))
+        waits = (bare (Preparing c f more) refl tt, (e.0, e.1, all_below, floors))
 
         counted : (m : Bool)
             → Both (if m then push same members n (lead same members n c (lowest f mine more) (reports more) t)

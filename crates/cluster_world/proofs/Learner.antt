@@ -24,13 +24,19 @@ use Rattle.paxos_learner.specs.declared.tallies.SlotBallot.{SlotBallot}
 use Rattle.paxos_learner.specs.Tallies.{Heard, same_place, place_of, nodes_heard, insert_entry}
 use Rattle.paxos_learner.specs.declared.learned.LearnedEntry.{LearnedEntry}
 use Rattle.paxos_learner.specs.Learner.{LearnerState}
-use Rattle.paxos_learner.specs.Learner.{learned_at, is_learned, put_learned, learn, hears, is_other, disagrees}
+use Rattle.paxos_learner.specs.Learned.{is_closed}
+use Rattle.paxos_learner.specs.Learner.{learned_at, put_learned, is_known, learn, hears, is_other, disagrees}
 use Rattle.paxos_learner.specs.Learner.{has_most, learn_chosen, count_vote, vote_disagrees}
 use Rattle.paxos_planning.specs.Plan.{with_learner}
 use Rattle.paxos_planning.specs.Node.{NodeState}
 
 off : false ≡ true → ⊥
 off e = cc
+
+-- a test fails with its second part
+none_of : (a : Bool) {b : Bool} → b ≡ false → (a && b) ≡ false
+none_of true e = e
+none_of false e = refl
 
 pub place_sound : (p q : SlotBallot) → same_place p q ≡ true → p ≡ q
 place_sound p q e =
@@ -119,7 +125,7 @@ module _ {B : Type 0} (members : ℕ) (promised : ℕ → Option Ballot) (sent :
   pub learn_ok : (l : LearnerState B) (slot : ℕ) (e : Entry B) → LearnerOk members sent l → IsChosen members sent slot e
       → LearnerOk members sent (learn slot e l)
   learn_ok l slot e ok chosen =
-      cond_both (is_learned slot l.learned) l (record { heard = l.heard; learned = put_learned f l.learned })
+      cond_both (is_known slot l) l (record l { learned = put_learned f l.learned })
       (λ y. LearnerOk members sent y)
       (λ t. ok)
       (λ t. record {
@@ -189,13 +195,15 @@ module _ {B : Type 0} (members : ℕ) (promised : ℕ → Option Ballot) (sent :
 
   pub count_ok : (l : LearnerState B) (k : ℕ) (v : Vote B) → PacketsOk members promised sent → LearnerOk members sent l
       → Sent sent k (Accepted v) → LearnerOk members sent (count_vote members k v l)
-  count_ok l k v packets ok s = learn_chosen_ok (hears k v l) v packets (hears_ok l k v ok s) (packets.voted k v s)
+  count_ok l k v packets ok s =
+      cond_both (is_closed l.floor v.slot) l (learn_chosen members v (hears k v l)) (λ y. LearnerOk members sent y) (λ t. ok)
+      (λ t. learn_chosen_ok (hears k v l) v packets (hears_ok l k v ok s) (packets.voted k v s))
 
   -- no disagreement
 
   pub agrees : (same : B → B → Bool) → IsEquality same → (l : LearnerState B) (slot : ℕ) (e : Entry B) → PacketsOk members promised sent
       → LearnerOk members sent l → IsChosen members sent slot e → disagrees same slot e l ≡ false
-  agrees same equal l slot e packets ok chosen = go (learned_at slot l.learned) refl
+  agrees same equal l slot e packets ok chosen = none_of (not (is_closed l.floor slot)) (go (learned_at slot l.learned) refl)
     where
       go : (o : Option (Entry B)) → learned_at slot l.learned ≡ o → is_other same e o ≡ false
       go None i = refl

@@ -1,9 +1,9 @@
 -- What each learner keeps, and that nothing which a node has learned waits.
 use Rattle.std.proofs.Common.{◌≡◌, ⊎_elim, ℕ, suc, ◌<◌, ◌≤◌, Bool, true, false, not, ◌&&◌, ◌||◌, eqb, refl, sym, ◌∙◌, subst, arith}
 use Rattle.std.proofs.Common.{List, [], ◌∷◌, ◌++◌, Option, Some, None}
-use Rattle.std.specs.Prelude.{nat_lt, if◌then◌else◌}
+use Rattle.std.specs.Prelude.{nat_lt, nat_le, filter, if◌then◌else◌}
 use Rattle.std.proofs.lemmas.Bool.{cond_both, cases_eq, ltb-true, ltb-false, eq-eqb, ne_eqb, or_from}
-use Rattle.cluster_world.proofs.Applied.{in_every}
+use Rattle.cluster_world.proofs.Taking.{in_every}
 use Rattle.cluster_world.proofs.EventsAtOnce.{all_rest}
 use Rattle.cluster_world.proofs.EveryWorld.{within, node_same, node_other, plain_at}
 use Rattle.cluster_world.proofs.Taking.{by_next}
@@ -24,10 +24,11 @@ use Rattle.paxos_proposer.specs.Proposer.{slot_end, next_vote, new_ballot, is_le
 use Rattle.paxos_proposer.specs.Promises.{lowest}
 use Rattle.paxos_proposer.specs.Reports.{is_counted, reports, called_for}
 use Rattle.paxos_learner.specs.declared.learned.LearnedEntry.{LearnedEntry}
-use Rattle.paxos_learner.specs.Learned.{is_learned}
-use Rattle.paxos_learner.specs.Learner.{LearnerState, unheard, hears, has_most, put_learned, learn, count_vote, run_with, run_from}
+use Rattle.paxos_learner.specs.Learned.{is_closed, is_learned}
+use Rattle.paxos_learner.specs.Learner.{LearnerState, unheard, forget, hears, has_most, put_learned, is_known, learn, learn_chosen, count_vote}
+use Rattle.paxos_learner.specs.Learner.{run_with, run_from}
 use Rattle.paxos_node.specs.declared.event.Event.{Event}
-use Rattle.paxos_node.specs.declared.event.Event.TheVariants.{Take, Tick, Start, Suspect, Deliver, Crash, Restart}
+use Rattle.paxos_node.specs.declared.event.Event.TheVariants.{Take, Tick, Start, Suspect, Deliver, Cut, Crash, Restart}
 use Rattle.paxos_planning.specs.Node.{NodeState, Plan, log_length}
 use Rattle.paxos_planning.specs.Plan.{with_role, with_pending, begun, send, promise, cast}
 use Rattle.paxos_planning.specs.Proposals.{offer, propose_as, propose, propose_all, lead, stands, propose_new, propose_each, forwarded, push}
@@ -35,16 +36,23 @@ use Rattle.paxos_planning.specs.Replies.{saw, refuse, cast_or_show, answer_ask, 
 use Rattle.paxos_planning.specs.Starting.{begin, starts, on_start}
 use Rattle.paxos_planning.specs.Ticking.{again}
 use Rattle.paxos_node.specs.Applying.{note, ends, go_down, apply_all, settle}
-use Rattle.paxos_node.specs.Events.{takes, with_item, on_take, has_room, suspected, new_lost, owner, outcome_of}
+use Rattle.paxos_node.specs.Events.{takes, with_item, on_take, has_room, suspected, new_lost, owner, deliver, on_event, outcome_of}
+use Rattle.paxos_node.specs.Snapshots.{has_boot, rest_on, take_in, on_cut}
+use Rattle.replica_machine.specs.declared.head.Head.{Head}
+use Rattle.replica_machine.specs.Snapshot.{head_at}
+use Rattle.cluster_world.proofs.Delivering.{IsOther, by_kind}
 use Rattle.cluster_world.specs.Laws.{NothingWaits}
 use Rattle.cluster_world.specs.World.{World, node_at, put_node, first_world, next, played}
 
--- what holds of a learner that has just begun, and stays so as votes are counted and entries learned, holds of each
-module _ {B : Type 0} (same : B → B → Bool) (members : ℕ) (Q : LearnerState B → Type 0) (none : Q unheard)
-    (counts : (k : ℕ) (v : Vote B) (l : LearnerState B) → Q l → Q (count_vote members k v l))
-    (learns : (slot : ℕ) (e : Entry B) (l : LearnerState B) → Q l → Q (learn slot e l)) where
+-- what holds of a learner that has just begun at the floor of its node, and stays so as votes are counted, entries learned and slots forgotten,
+-- holds of each
+module _ {B : Type 0} (same : B → B → Bool) (members : ℕ) (Q : ℕ → LearnerState B → Type 0)
+    (none : (floor : ℕ) → Q floor (unheard floor))
+    (counts : (f k : ℕ) (v : Vote B) (l : LearnerState B) → Q f l → Q f (count_vote members k v l))
+    (learns : (f slot : ℕ) (e : Entry B) (l : LearnerState B) → Q f l → Q f (learn slot e l))
+    (forgets : (f floor : ℕ) (l : LearnerState B) → Q f l → Q floor (forget floor l)) where
   abbrev Ok : Plan B → Type 0
-  Ok t = Q t.node.learner
+  Ok t = Q (floor_in t.node.rows.snapshot) t.node.learner
 
   module _ (n : ℕ) where
     proposes_as : (r : Role B) (e : Entry B) (t : Plan B) → Ok t → Ok (propose_as same members n r e t)
@@ -52,7 +60,7 @@ module _ {B : Type 0} (same : B → B → Bool) (members : ℕ) (Q : LearnerStat
     proposes_as (Preparing b floor cs) e t ok = ok
     proposes_as (Leading b slot table) e t ok =
         cond_both (nat_lt slot slot_end) (cast same members n (next_vote b slot e) (offer members n b slot table e t)) t (λ u. Ok u)
-        (λ l. counts n (next_vote b slot e) t.node.learner ok) (λ l. ok)
+        (λ l. counts (floor_in t.node.rows.snapshot) n (next_vote b slot e) t.node.learner ok) (λ l. ok)
 
     proposes : (e : Entry B) (t : Plan B) → Ok t → Ok (propose same members n e t)
     proposes e t ok = proposes_as t.node.proposer.role e t ok
@@ -97,7 +105,7 @@ module _ {B : Type 0} (same : B → B → Bool) (members : ℕ) (Q : LearnerStat
         low = lowest first own more
 
     casts_or_shows : (from : ℕ) (given : Option taken.Snapshot) (v : Vote B) (t : Plan B) → Ok t → Ok (cast_or_show same members n from given v t)
-    casts_or_shows from None v t ok = counts n v t.node.learner ok
+    casts_or_shows from None v t ok = counts (floor_in t.node.rows.snapshot) n v t.node.learner ok
     casts_or_shows from (Some s) v t ok = ok
 
     answers_ask : (from slot : ℕ) (given : Option taken.Snapshot) (t : Plan B) → Ok t → Ok (answer_ask n from slot given t)
@@ -114,13 +122,13 @@ module _ {B : Type 0} (same : B → B → Bool) (members : ℕ) (Q : LearnerStat
         cond_both (may_accept t.node.rows.promised v.ballot) (cast_or_show same members n from (given_by t.node.rows.snapshot v.slot) v t)
         (refuse n from v.ballot t) (λ u. Ok u)
         (λ e. casts_or_shows from (given_by t.node.rows.snapshot v.slot) v t ok) (λ e. ok)
-    hears_packet from (Accepted v) t ok = counts from v t.node.learner ok
+    hears_packet from (Accepted v) t ok = counts (floor_in t.node.rows.snapshot) from v t.node.learner ok
     hears_packet from (Nack b p) t ok = ok
     hears_packet from (Forward es) t ok =
         cond_both (is_leading t.node.proposer.role) (propose_each same members n es t) t (λ u. Ok u) (λ d. proposes_each es t ok) (λ d. ok)
     hears_packet from (Ask slot) t ok = answers_ask from slot (given_by t.node.rows.snapshot slot) t ok
     hears_packet from (Snapshot s) t ok = ok
-    hears_packet from (Learned slot e) t ok = learns slot e t.node.learner ok
+    hears_packet from (Learned slot e) t ok = learns (floor_in t.node.rows.snapshot) slot e t.node.learner ok
 
     begins : (t : Plan B) → Ok t → Ok (on_start members n t)
     begins t ok =
@@ -141,42 +149,71 @@ module _ {B : Type 0} (same : B → B → Bool) (members : ℕ) (Q : LearnerStat
     applies : (es : List (Entry B)) (t : Plan B) → Ok t → Ok (apply_all n es t)
     applies [] t ok = ok
     applies (e ∷ es) t ok =
-        cond_both (ends n t.node e) (go_down (note e t)) (apply_all n es (note e t)) (λ u. Ok u) (λ d. none) (λ d. applies es (note e t) ok)
+        cond_both (ends n t.node e) (go_down (note e t)) (apply_all n es (note e t)) (λ u. Ok u)
+        (λ d. none (floor_in t.node.rows.snapshot)) (λ d. applies es (note e t) ok)
+
+    rests : (over : Bool) (s : taken.Snapshot) (t : Plan B) → Ok t → Ok (rest_on over s t)
+    rests false s t ok = forgets (floor_in t.node.rows.snapshot) s.floor t.node.learner ok
+    rests true s t ok = forgets (floor_in t.node.rows.snapshot) s.floor t.node.learner ok
+
+    takes_in : (s : taken.Snapshot) (o : Option Head) (t : Plan B) → Ok t → Ok (take_in n s o t)
+    takes_in s None t ok = ok
+    takes_in s (Some head) t ok =
+        cond_both (has_boot n t.node head) t (rest_on true s t) (λ u. Ok u) (λ d. ok) (λ d. rests true s t ok)
+
+    delivers : (from : ℕ) (kind : Kind B) (t : Plan B) → Ok t → Ok (deliver same members n from kind t)
+    delivers from kind t ok =
+        ⊎_elim
+        (λ (z : (s : taken.Snapshot) × (kind ≡ Snapshot s)). subst (λ k. Ok (deliver same members n from k t)) (sym z.1)
+        (cond_both (nat_le z.0.floor (log_length t.node)) t (take_in n z.0 (head_at z.0.octets) t) (λ u. Ok u) (λ d. ok)
+        (λ d. takes_in z.0 (head_at z.0.octets) t ok)))
+        (λ (z : IsOther same members n from kind). subst (λ u. Ok u) (sym (z t)) (hears_packet from kind t ok))
+        (by_kind same members n from kind)
+
+    cuts : (o : Option taken.Snapshot) (t : Plan B) → Ok t → Ok (on_cut o t)
+    cuts None t ok = ok
+    cuts (Some s) t ok = rests false s t ok
 
     settles : (t : Plan B) → Ok t → Ok (settle n t)
     settles t ok = applies (run_from (suc (log_length t.node)) t.node.learner.learned) t ok
 
-  outcome_keeps : (e : Event B) (x : NodeState B) → Q x.learner → Q (outcome_of same members e x).node.learner
-  outcome_keeps (Take n t body) x ok = settles n _ (takes_act n t body (begun x) ok)
-  outcome_keeps (Tick n) x ok = settles n _ (pushes n (send (again members n x.proposer.role x.learner.learned) (begun x)) ok)
-  outcome_keeps (Start n) x ok = settles n _ (begins n (begun x) ok)
-  outcome_keeps (Suspect n other) x ok = settles n _ (suspects n (new_lost same n other x) (begun x) ok)
+  outcome_keeps : (e : Event B) (x : NodeState B) → Q (floor_in x.rows.snapshot) x.learner
+      → Q (floor_in (outcome_of same members e x).node.rows.snapshot) (outcome_of same members e x).node.learner
+  outcome_keeps (Take n t body) x ok = settles n (on_event same members (Take n t body) (begun x)) (takes_act n t body (begun x) ok)
+  outcome_keeps (Tick n) x ok = settles n (on_event same members (Tick n) (begun x)) (pushes n (send (again members n x.proposer.role x.learner) (begun x)) ok)
+  outcome_keeps (Start n) x ok = settles n (on_event same members (Start n) (begun x)) (begins n (begun x) ok)
+  outcome_keeps (Suspect n other) x ok = settles n (on_event same members (Suspect n other) (begun x)) (suspects n (new_lost same n other x) (begun x) ok)
   outcome_keeps (Deliver p) x ok =
-      settles p.addressee _ (hears_packet p.addressee p.sender p.kind (record (begun x) { node = saw p.kind x }) ok)
-  outcome_keeps (Crash n) x ok = none
-  outcome_keeps (Restart n) x ok = none
+      settles p.addressee (on_event same members (Deliver p) (begun x)) (delivers p.addressee p.sender p.kind (record (begun x) { node = saw p.kind x }) ok)
+  outcome_keeps (Cut n o) x ok = settles n (on_event same members (Cut n o) (begun x)) (cuts n o (begun x) ok)
+  outcome_keeps (Crash n) x ok = none (floor_in x.rows.snapshot)
+  outcome_keeps (Restart n) x ok = none (floor_in x.rows.snapshot)
 
   abbrev AllKeep : World B → Type 0
-  AllKeep w = (k : ℕ) → Q (node_at w.nodes k).learner
+  AllKeep w = (k : ℕ) → Q (floor_in (node_at w.nodes k).rows.snapshot) (node_at w.nodes k).learner
 
   next_keeps : (w : World B) (e : Event B) → AllKeep w → AllKeep (next same members w e)
   next_keeps w e all =
       by_next same members (λ z. AllKeep z) w e all
       (λ m k. ⊎_elim
-      (λ (i : k ≡ owner e). subst (λ j. Q (node_at (put_node w.nodes (owner e) o.node) j).learner) (sym i)
-      (subst (λ (x : NodeState B). Q x.learner) (sym (node_same w.nodes (owner e) o.node (within w.nodes e (owner e) m.1)))
+      (λ (i : k ≡ owner e). subst (λ j. Kept (node_at (put_node w.nodes (owner e) o.node) j)) (sym i)
+      (subst (λ x. Kept x) (sym (node_same w.nodes (owner e) o.node (within w.nodes e (owner e) m.1)))
       (outcome_keeps e (node_at w.nodes (owner e)) (all (owner e)))))
-      (λ i. subst (λ (x : NodeState B). Q x.learner) (sym (node_other w.nodes (owner e) o.node k i)) (all k))
+      (λ i. subst (λ x. Kept x) (sym (node_other w.nodes (owner e) o.node k i)) (all k))
       (cases_eq k (owner e)))
     where
       o : Plan B
       o = outcome_of same members e (node_at w.nodes (owner e))
 
+      Kept : NodeState B → Type 0
+      Kept x = Q (floor_in x.rows.snapshot) x.learner
+
   pub all_keep : (events : List (Event B)) → AllKeep (played same members events)
   all_keep events =
       in_every same members (λ w. AllKeep w) next_keeps events (first_world members)
       (λ k. let p = plain_at {B = B} members k in
-      subst Q (λ i. record { heard = sym p.heard i; learned = sym p.learned i }) none)
+      subst (λ (z : Option taken.Snapshot × LearnerState B). Q (floor_in z.0) z.1)
+      (λ i. (sym p.snapshot i, record { floor = sym p.floor i; heard = sym p.heard i; learned = sym p.learned i })) (none 0))
 
 -- learned entries ascend by slot, from this one on
 
@@ -209,25 +246,50 @@ put_climbs {B} slot f (g ∷ gs) l h c = go (nat_lt g.slot f.slot) (eqb g.slot f
     go false false p q i more = (l, (after (ltb-false g.slot f.slot p) (λ e. apart e q), c.1))
 
 learn_climbs : {B : Type 0} (slot : ℕ) (e : Entry B) (l : LearnerState B) → Climbs 0 l.learned → Climbs 0 (learn slot e l).learned
-learn_climbs {B} slot e l c = go (is_learned slot l.learned) refl
+learn_climbs {B} slot e l c = go (is_known slot l) refl
   where
     f : LearnedEntry B
     f = record { slot = slot; entry = e }
 
-    go : (b : Bool) → is_learned slot l.learned ≡ b
-        → Climbs 0 (if b then l else record { heard = l.heard; learned = put_learned f l.learned }).learned
+    second : (a : Bool) {b : Bool} → (a || b) ≡ false → b ≡ false
+    second true e = absurd (never e)
+      where
+        never : true ≡ false → ⊥
+        never e = cc
+    second false e = e
+
+    go : (b : Bool) → is_known slot l ≡ b → Climbs 0 (if b then l else record l { learned = put_learned f l.learned }).learned
     go true q = c
-    go false q = put_climbs 0 f l.learned (omega arith) q c
+    go false q = put_climbs 0 f l.learned (omega arith) (second (is_closed l.floor slot) q) c
 
 count_climbs : {B : Type 0} (members k : ℕ) (v : Vote B) (l : LearnerState B) → Climbs 0 l.learned → Climbs 0 (count_vote members k v l).learned
 count_climbs members k v l c =
-    cond_both (has_most members v (hears k v l)) (learn v.slot v.entry (hears k v l)) (hears k v l) (λ z. Climbs 0 z.learned)
-    (λ t. learn_climbs v.slot v.entry (hears k v l) c) (λ t. c)
+    cond_both (is_closed l.floor v.slot) l (learn_chosen members v (hears k v l)) (λ z. Climbs 0 z.learned) (λ d. c)
+    (λ d. cond_both (has_most members v (hears k v l)) (learn v.slot v.entry (hears k v l)) (hears k v l) (λ z. Climbs 0 z.learned)
+    (λ t. learn_climbs v.slot v.entry (hears k v l) c) (λ t. c))
+
+climbs_low : {B : Type 0} (from slot : ℕ) (fs : List (LearnedEntry B)) → from ≤ slot → Climbs slot fs → Climbs from fs
+climbs_low from slot [] l c = tt
+climbs_low from slot (f ∷ fs) l c = (le l c.0, c.1)
+  where
+    le : {a b k : ℕ} → a ≤ b → b ≤ k → a ≤ k
+    le p q = omega arith
+
+filter_climbs : {B : Type 0} (test : LearnedEntry B → Bool) (slot : ℕ) (fs : List (LearnedEntry B)) → Climbs slot fs → Climbs slot (filter test fs)
+filter_climbs test slot [] c = tt
+filter_climbs test slot (f ∷ fs) c =
+    cond_both (test f) (f ∷ filter test fs) (filter test fs) (λ l. Climbs slot l) (λ t. (c.0, filter_climbs test (suc f.slot) fs c.1))
+    (λ t. climbs_low slot (suc f.slot) (filter test fs) (up c.0) (filter_climbs test (suc f.slot) fs c.1))
+  where
+    up : slot ≤ f.slot → slot ≤ suc f.slot
+    up l = omega arith
 
 pub all_climb : {B : Type 0} (same : B → B → Bool) (members : ℕ) (events : List (Event B)) (k : ℕ)
     → Climbs 0 (node_at (played same members events).nodes k).learner.learned
 all_climb {B} same members events k =
-    all_keep same members (λ (l : LearnerState B). Climbs 0 l.learned) tt (count_climbs members) learn_climbs events k
+    all_keep same members (λ floor (l : LearnerState B). Climbs 0 l.learned) (λ floor. tt) (λ f n v l c. count_climbs members n v l c)
+    (λ f slot e l c. learn_climbs slot e l c)
+    (λ f floor l c. filter_climbs _ 0 l.learned c) events k
 
 -- what is not applied next was not learned
 
@@ -260,3 +322,22 @@ pub nothing_waits : {B : Type 0} (same : B → B → Bool) → NothingWaits B sa
 nothing_waits same members events n =
     rests_unlearned _ 0 (node_at (played same members events).nodes n).learner.learned (all_climb same members events n)
     (all_rest same members events n)
+
+-- a learner forgets up to its node's floor
+
+learn_floor : {B : Type 0} (slot : ℕ) (e : Entry B) (l : LearnerState B) → (learn slot e l).floor ≡ l.floor
+learn_floor slot e l =
+    cond_both (is_known slot l) l (record l { learned = put_learned (record { slot = slot; entry = e }) l.learned }) (λ z. z.floor ≡ l.floor)
+    (λ t. refl) (λ t. refl)
+
+pub count_floor : {B : Type 0} (members k : ℕ) (v : Vote B) (l : LearnerState B) → (count_vote members k v l).floor ≡ l.floor
+count_floor members k v l =
+    cond_both (is_closed l.floor v.slot) l (learn_chosen members v (hears k v l)) (λ z. z.floor ≡ l.floor) (λ c. refl)
+    (λ c. cond_both (has_most members v (hears k v l)) (learn v.slot v.entry (hears k v l)) (hears k v l) (λ z. z.floor ≡ l.floor)
+    (λ t. learn_floor v.slot v.entry (hears k v l)) (λ t. refl))
+
+pub all_floors : {B : Type 0} (same : B → B → Bool) (members : ℕ) (events : List (Event B)) (k : ℕ)
+    → (node_at (played same members events).nodes k).learner.floor ≡ floor_in (node_at (played same members events).nodes k).rows.snapshot
+all_floors {B} same members events k =
+    all_keep same members (λ floor (l : LearnerState B). l.floor ≡ floor) (λ floor. refl) (λ f n v l c. count_floor members n v l ∙ c)
+    (λ f slot e l c. learn_floor slot e l ∙ c) (λ f floor l c. refl) events k

@@ -1,5 +1,5 @@
 -- What a pass of a rescue leaves: the node that leads with all that it proposed in its log, or down, and helpers that cast all of it.
-use Rattle.std.proofs.Common.{◌≡◌, ◌⊎◌, ℕ, suc, ◌+◌, ◌≤◌, Bool, true, false, List, [], ◌++◌, length, Some}
+use Rattle.std.proofs.Common.{◌≡◌, ◌⊎◌, ℕ, suc, ◌+◌, ◌≤◌, Bool, true, false, List, [], ◌++◌, length, Some, None}
 use Rattle.cluster_world.proofs.Casting.{AreEights}
 use Rattle.cluster_world.proofs.Passing.{Ready}
 use Rattle.cluster_world.proofs.Slots.{AreAfter}
@@ -50,6 +50,7 @@ module _ {B : Type 0} (same : B → B → Bool) (equal : IsEquality same) (membe
   -- the node goes on: all that it proposed is in its log
   pub record RodeOn (k : Kept B) (role : Role B) (vs : List (Vote B)) (z : NodeState B) : Type 0 where
     pub up : z.up ≡ true
+    pub level : z.learner.floor ≡ 0
     pub role_is : z.proposer.role ≡ role
     pub taken : z.taken ≡ k.taken
     pub log : z.applied ≡ k.log ++ entries_of vs
@@ -81,6 +82,7 @@ module _ {B : Type 0} (same : B → B → Bool) (equal : IsEquality same) (membe
     pub in_crew : (j : ℕ) → crew j ≡ true → (j ≡ n) ⊎ ((s : Seat B) × Has seats s × (s.number ≡ j))
     pub short : (j : ℕ) (v : Vote B) → crew j ≡ true → Has (node_at q.nodes j).rows.votes v → v.slot ≤ length k.log + length vs
     pub boot : (node_at q.nodes n).rows.boot ≡ k.boot
+    pub plain : (node_at q.nodes n).rows.snapshot ≡ None
     pub promised : (node_at q.nodes n).rows.promised ≡ Some ballot_of
     pub votes : (node_at q.nodes n).rows.votes ≡ put_votes vs k.votes
     pub mine : (v : Vote B) → Has vs v → v.ballot ≡ ballot_of

@@ -56,6 +56,14 @@ has_filter test (y ∷ xs) {x} h =
     (λ e g. there (has_filter test xs g))
     h
 
+pub has_passes : {A : Type 0} (test : A → Bool) (xs : List A) {x : A} → Has (filter test xs) x → test x ≡ true
+has_passes test [] h = absurd (has_nil h)
+has_passes test (y ∷ xs) {x} h =
+    cond_both (test y) (y ∷ filter test xs) (filter test xs) (λ zs. Has zs x → test x ≡ true)
+    (λ e g. ⊎_elim (λ s. subst (λ z. test z ≡ true) s e) (λ r. has_passes test xs r) (has_cons g))
+    (λ e g. has_passes test xs g)
+    h
+
 pub has_at : {A : Type 0} (xs : List A) (i : ℕ) {x : A} → slice_get xs i ≡ Some x → Has xs x
 has_at [] i e = absurd (cc)
 has_at (y ∷ xs) zero {x} e = has_first xs (same e)

@@ -14,6 +14,7 @@ use Rattle.cluster_world.proofs.Concluding.{Ending, Rode_on, Went_down, conclude
 use Rattle.cluster_world.proofs.EveryWorld.{WorldOk, world_ok, all_stay, play_on}
 use Rattle.cluster_world.proofs.Fates.{Rides}
 use Rattle.cluster_world.proofs.Leading.{Bids, AreBelow, IsIn}
+use Rattle.cluster_world.proofs.Learning.{all_floors}
 use Rattle.cluster_world.proofs.Leaving.{kept_of, IsVoteOf, WasReported, RodeOn, WentDown, PassDone}
 use Rattle.cluster_world.proofs.Lists.{has_one}
 use Rattle.cluster_world.proofs.Passing.{Ready, Passed, among, counted_by}
@@ -32,9 +33,9 @@ use Rattle.paxos_packets.specs.declared.ballot.Ballot.{Ballot}
 use Rattle.paxos_packets.specs.declared.entry.Entry.{Entry}
 use Rattle.paxos_packets.specs.declared.packet.Kind.TheVariants.{Accept}
 use Rattle.paxos_learner.specs.Tallies.{place_of}
-use Rattle.replica_machine.specs.Roll.{standing, standings}
+use Rattle.replica_machine.specs.Roll.{standing, standings, standings_from}
 use Rattle.paxos_node.specs.Adopting.{pending_behind}
-use Rattle.paxos_node.specs.Applying.{standing_of, down, has_end}
+use Rattle.paxos_node.specs.Applying.{standing_of, stands_at, down, has_end}
 use Rattle.paxos_packets.specs.declared.vote.Vote.{Vote}
 use Rattle.paxos_acceptor.specs.Acceptor.{may_promise}
 use Rattle.paxos_proposer.specs.declared.promises.CountedPromise.{CountedPromise}
@@ -117,21 +118,23 @@ module _ {B : Type 0} (same : B → B → Bool) (equal : IsEquality same) (membe
       (votes_are : (s : Seat B) → Has seats s → (now s).rows.votes ≡ put_votes cast s.node.rows.votes)
       (own_votes : x.rows.votes ≡ put_votes cast own.node.rows.votes)
       (plains : (s : Seat B) → Has seats s → s.node.rows.snapshot ≡ None) (own_plain : own.node.rows.snapshot ≡ None)
+      (flats : (s : Seat B) → Has seats s → (now s).rows.snapshot ≡ None) (flat : x.rows.snapshot ≡ None)
       (belows : (s : Seat B) → Has seats s → AreBelow past (votes_then first cast s))
       (own_below : AreBelow past (votes_then first cast own))
       (heard : HeardOwn ballot n x.learner) (eights : AreEights x.learner.heard)
       (heards : (s : Seat B) → Has seats s → HeardOwn ballot s.number (now s).learner)
       (enough : is_majority members (among (fold (λ ks s. s.number ∷ ks) (n ∷ []) seats)) ≡ true)
       (enough_too : is_majority members (among (n ∷ counted_by seats)) ≡ true) where
-    -- no node has a snapshot
-    flat_of : (k : ℕ) → (node_at u.nodes k).rows.snapshot ≡ None
-    flat_of k = (world_ok same equal members two before).plain k
+    level_of : (k : ℕ) → (node_at u.nodes k).rows.snapshot ≡ None → (node_at u.nodes k).learner.floor ≡ 0
+    level_of k e = all_floors same members before k ∙ ap (λ o. floor_in o) e
 
-    flats : (s : Seat B) → Has seats s → (now s).rows.snapshot ≡ None
-    flats s h = ap (λ (z : NodeState B). z.rows.snapshot) (sym (are s h)) ∙ flat_of s.number
+    level : x.learner.floor ≡ 0
+    level = level_of n flat
 
-    flat : x.rows.snapshot ≡ None
-    flat = flat_of n
+    levels : (s : Seat B) → Has seats s → (now s).learner.floor ≡ 0
+    levels s h =
+        ap (λ (z : NodeState B). z.learner.floor) (sym (are s h))
+        ∙ level_of s.number (ap (λ (z : NodeState B). z.rows.snapshot) (are s h) ∙ flats s h)
 
     floors : (s : Seat B) → Has seats s → floor_of s ≡ 0
     floors s h = ap (λ k. floor_in k) (plains s h)
@@ -147,18 +150,18 @@ module _ {B : Type 0} (same : B → B → Bool) (equal : IsEquality same) (membe
     leads =
         bidding.leads same equal members two n member low u own number seats apart others now are ups rests up rest seen is_seen sees rounds
         cast past
-        most from room slots mays votes_are own_votes flats plains flat own_plain belows own_below heard eights enough
+        most from room slots mays votes_are own_votes flats plains flat own_plain belows own_below level heard eights enough
 
     abbrev Bid : Type 0
     Bid = bidding.KnowsIt same equal members two n member low u own number seats apart others now are ups rests up rest seen is_seen sees
         rounds cast
-        past most from room slots mays votes_are own_votes flats plains flat own_plain belows own_below heard eights enough p role
+        past most from room slots mays votes_are own_votes flats plains flat own_plain belows own_below level heard eights enough p role
 
     bid : Bid
     bid =
         (bidding.bid same equal members two n member low u own number seats apart others now are ups rests up rest seen is_seen sees rounds
         cast past
-        most from room slots mays votes_are own_votes flats plains flat own_plain belows own_below heard eights enough).own
+        most from room slots mays votes_are own_votes flats plains flat own_plain belows own_below level heard eights enough).own
 
     helper_is : (s : Seat B) → Has seats s
         → Ready same equal members two n member (suc seen) (node_at p.nodes n) s.number (now s).rows.votes (node_at p.nodes s.number)
@@ -167,10 +170,10 @@ module _ {B : Type 0} (same : B → B → Bool) (equal : IsEquality same) (membe
         (sym
         ((bidding.bid same equal members two n member low u own number seats apart others now are ups rests up rest seen is_seen sees rounds
         cast past
-        most from room slots mays votes_are own_votes flats plains flat own_plain belows own_below heard eights enough).helpers s h))
+        most from room slots mays votes_are own_votes flats plains flat own_plain belows own_below level heard eights enough).helpers s h))
         (ready_after same equal members two n member low (suc seen) (node_at p.nodes n) (now s) s.number first (ups s h) (rests s h)
         (mays s h)
-        (flats s h)
+        (flats s h) (levels s h)
         (heards s h))
 
     -- what a helper has is what it reported, or below the first slot
@@ -179,7 +182,7 @@ module _ {B : Type 0} (same : B → B → Bool) (equal : IsEquality same) (membe
         (node_at p.nodes s.number)
     ready s h =
         let r = helper_is s h in
-        record { up = r.up; promised = r.promised; votes_are = refl; plain = r.plain; own = r.own; rests = r.rests }
+        record { up = r.up; promised = r.promised; votes_are = refl; plain = r.plain; level = r.level; own = r.own; rests = r.rests }
 
     p_is : played same members (before ++ leading) ≡ p
     p_is = play_on same members before leading (first_world members)
@@ -187,12 +190,34 @@ module _ {B : Type 0} (same : B → B → Bool) (equal : IsEquality same) (membe
     ok : WorldOk members p
     ok = subst (λ w. WorldOk members w) p_is (world_ok same equal members two (before ++ leading))
 
+    -- the node rests on nothing
+    flat_y : y.rows.snapshot ≡ None
+    flat_y = ap (λ (z : NodeState B). z.rows.snapshot) y_is ∙ flat
+
+    flat_p : (node_at p.nodes n).rows.snapshot ≡ None
+    flat_p = bid.bids.base ∙ flat_y
+
+    bare : (z : NodeState B) → z.rows.snapshot ≡ None → log_length z ≡ length z.applied
+    bare z e = ap (λ o. floor_in o + length z.applied) e ∙ none_under (length z.applied)
+      where
+        none_under : (a : ℕ) → 0 + a ≡ a
+        none_under a = omega arith
+
+    long_is : log_length y ≡ log_length x
+    long_is = ap (λ (z : NodeState B). log_length z) y_is
+
+    stands_p : standing_of (node_at p.nodes n) ≡ standings (node_at p.nodes n).applied
+    stands_p = λ i. standings_from (stands_at (flat_p i)) (node_at p.nodes n).applied
+
+    long_p : log_length (node_at p.nodes n) ≡ log_length y
+    long_p = (λ i. floor_in (bid.bids.base i) + length (bid.bids.log i))
+
     -- all that was proposed is carried to the helpers, and back
     pub one_pass : Passed same equal members two n member (suc seen) (node_at p.nodes n) seats (λ k. (node_at p.nodes k).rows.votes) vs [] p
         (play same members (pass n seats vs) p)
     one_pass =
         carries same equal members two n member low (suc seen) p ok x.rows.votes y role bid.bids seats apart others lows enough_too
-        (log_length y) ready
+        flat_p (log_length y) ready
 
     -- it leads with a majority behind it, and its proposals follow its log
     log_is : y.applied ≡ x.applied
@@ -207,7 +232,7 @@ module _ {B : Type 0} (same : B → B → Bool) (equal : IsEquality same) (membe
         led_ordered same members (log_length y) y.pending ballot (log_length y) (floor_of own) (least (floor_of own) (log_length y) own_floor)
         (λ s. votes_then first cast s) seats (asking own.number ballot first (floor_of own) (votes_then first cast own))
         (λ s h. least (floor_of s) (log_length y) (floors s h)) (
-          ap (λ (l : List _). suc (length l)) (sym log_is),
+          ap suc (sym long_is),
           λ c h. subst (λ (z : CountedPromise B). z.floor ≤ log_length y) (has_one h) (least (floor_of own) (log_length y) own_floor),
         )
       where
@@ -288,7 +313,7 @@ module _ {B : Type 0} (same : B → B → Bool) (equal : IsEquality same) (membe
     held : (c : CountedPromise B) → Has backed.cs c → (ws : List (Vote B)) → c.votes ≡ votes_from first ws → (v : Vote B) → Has ws v
         → v.slot ≤ log_length y + length table
     held c h ws e v i =
-        ⊎_elim (λ (l : v.slot < first). below v.slot (log_length x) (log_length y) (ap length log_is) l)
+        ⊎_elim (λ (l : v.slot < first). below v.slot (log_length x) (log_length y) long_is l)
         (λ (l : first ≤ v.slot). reported c h v (subst (λ l. Has l v) (sym e) (from_has first ws v i l)))
         (cases_lt v.slot first)
       where
@@ -326,15 +351,16 @@ module _ {B : Type 0} (same : B → B → Bool) (equal : IsEquality same) (membe
         (λ k. (node_at w.nodes k).rows.votes) vs [] w
         (play same members (pass n seats vs) w)) one_pass)
         (at_p (λ w. AreAfter (log_length (node_at w.nodes n)) vs)
-        (subst (λ l. AreAfter l vs) (sym (ap length bid.bids.log)) (subst (λ l. AreAfter (log_length y) l) (sym vs_is) after_table)))
+        (subst (λ l. AreAfter l vs) (sym long_p) (subst (λ l. AreAfter (log_length y) l) (sym vs_is) after_table)))
         after_table (λ v h. subst (λ l. Has l v) vs_is h) (at_p (λ w. (node_at w.nodes n).rows.votes ≡ put_votes table x.rows.votes)
         bid.bids.cast)
         (at_p (λ w. (node_at w.nodes n).rows.promised ≡ Some ballot) bid.bids.promised)
         (λ v h. bid.bids.mine v (subst (λ l. Has l v) vs_is h)) crew (ltb-true _ _ backed.most) in_crew
         (λ k v t h. subst (λ w. v.slot ≤ log_length (node_at w.nodes n) + length vs) (sym p_is)
-        (subst (λ a. v.slot ≤ a + length vs) (sym (ap length bid.bids.log))
+        (subst (λ a. v.slot ≤ a + length vs) (sym long_p)
         (subst (λ l. v.slot ≤ log_length y + length l) (sym vs_is) (short k v t
         (subst (λ w. Has (node_at w.nodes k).rows.votes v) p_is h)))))
+        (at_p (λ w. (node_at w.nodes n).rows.snapshot ≡ None) flat_p)
       where
         at_p : (P : World B → Type 0) → P p → P (played same members (before ++ leading))
         at_p P h = subst P (sym p_is) h
@@ -379,6 +405,7 @@ module _ {B : Type 0} (same : B → B → Bool) (equal : IsEquality same) (membe
           promised = r.promised;
           votes_are = r.votes_are ∙ ap (λ l. put_votes vs l) (helper_is s h).votes_are;
           plain = r.plain;
+          level = r.level;
           own = r.own;
           rests = r.rests;
         }
@@ -402,7 +429,7 @@ module _ {B : Type 0} (same : B → B → Bool) (equal : IsEquality same) (membe
     -- what was called for was reported
     reported_is : (e : Entry B) → Has (called_for first (reports backed.cs)) e → WasReported (kept_of x) seats had e
     reported_is e h =
-        called_good (λ f. WasReported (kept_of x) seats had f) same members n (inl refl) (reports backed.cs)
+        called_good (λ f. WasReported (kept_of x) seats had f) (λ s. Unit {0}) same members n (inl refl) (reports backed.cs)
         (λ v g. let c = has_reports backed.cs v g in inr (v, of c.0 (backed.from c.0 c.1) v c.2, refl)) first
         (past_reports first (reports backed.cs) - first) e h
       where
@@ -434,11 +461,14 @@ module _ {B : Type 0} (same : B → B → Bool) (equal : IsEquality same) (membe
         rode r =
             record {
               up = r.up;
+              level = r.level;
               role_is = r.role ∙ b.role;
               taken = r.taken ∙ b.taken;
               log = r.log ∙ ap (λ l. l ++ entries_of vs) b.log;
-              pending = r.pending ∙ (λ i. pending_behind (standings (b.log i)) (entries_of vs) (b.pending i));
-              ends = (λ i. has_end n (sym b.boot i) (standing n (sym b.log i)) (entries_of vs)) ∙ r.stands;
+              pending = r.pending ∙ (λ i. pending_behind (stands_p i) (entries_of vs) (node_at p.nodes n).pending)
+                  ∙ (λ i. pending_behind (standings (b.log i)) (entries_of vs) (b.pending i));
+              ends = (λ i. has_end n (sym b.boot i) (standing n (sym b.log i)) (entries_of vs))
+                  ∙ ((λ i. has_end n (node_at p.nodes n).rows.boot (sym stands_p i n) (entries_of vs)) ∙ r.stands);
               eights = r.eights;
               heard = λ v h. r.heard (place_of v) n (b.heard v (subst (λ l. Has l v) vs_is h));
             }
@@ -449,7 +479,8 @@ module _ {B : Type 0} (same : B → B → Bool) (equal : IsEquality same) (membe
         fell d h =
             record {
               down_is = d ∙ ap (λ r. down r) (sym rows_are);
-              ends = (λ i. has_end n (sym b.boot i) (standing n (sym b.log i)) (entries_of vs)) ∙ h;
+              ends = (λ i. has_end n (sym b.boot i) (standing n (sym b.log i)) (entries_of vs))
+                  ∙ ((λ i. has_end n (node_at p.nodes n).rows.boot (sym stands_p i n) (entries_of vs)) ∙ h);
             }
 
     abbrev DoneAs : NodeState B → Type 0
@@ -470,12 +501,12 @@ module _ {B : Type 0} (same : B → B → Bool) (equal : IsEquality same) (membe
           helpers = helpers_then;
           next = shape.0;
           role_is = role_at;
-          next_is = at_next role role_at ordered;
+          next_is = at_next role role_at ordered ∙ ap (λ a. suc (a + length vs)) (bare y flat_y);
           bound = (subst (λ r. IsIn ballot first past most r) shape.2 bid.is_in).1;
-          after = subst (λ l. AreAfter (log_length y) l) (sym vs_is) after_table;
+          after = subst (λ a. AreAfter a vs) (bare y flat_y) (subst (λ l. AreAfter (log_length y) l) (sym vs_is) after_table);
           called = called_for first (reports backed.cs);
-          made = backed.made ∙ ap (λ (l : List (Entry B)). propose_new same (log_length y) y.pending
-              (propose_all (called_for first (reports backed.cs)) (Leading ballot (suc (length l)) []))) (sym log_is);
+          made = backed.made ∙ (λ i. propose_new same (bare y flat_y i) y.pending
+              (propose_all (called_for first (reports backed.cs)) (Leading ballot (suc (first_as i)) [])));
           reported = λ e h. subst (λ l. WasReported (record {
             log = x.applied;
             pending = x.pending;
@@ -487,8 +518,9 @@ module _ {B : Type 0} (same : B → B → Bool) (equal : IsEquality same) (membe
           crew = crew;
           enough = ltb-true _ _ backed.most;
           in_crew = in_crew;
-          short = short_then;
+          short = λ j v t h. subst (λ a. v.slot ≤ a + length vs) (bare y flat_y) (short_then j v t h);
           boot = ap (λ r. r.boot) rows_are ∙ b.boot;
+          plain = ap (λ r. r.snapshot) rows_are ∙ flat_p;
           promised = ap (λ r. r.promised) rows_are ∙ b.promised;
           votes = ap (λ r. r.votes) rows_are ∙ (b.cast ∙ (λ i. put_votes (sym vs_is i) (sym votes_y i)));
           mine = λ v h. b.mine v (subst (λ l. Has l v) vs_is h);
@@ -497,6 +529,9 @@ module _ {B : Type 0} (same : B → B → Bool) (equal : IsEquality same) (membe
           fate = fate_is;
         }
       where
+        first_as : log_length x ≡ length y.applied
+        first_as = bare x flat ∙ ap length (sym log_is)
+
         at_next : (r : Role B) → r ≡ Leading ballot shape.0 vs → Ordered (log_length y) r → shape.0 ≡ suc (log_length y + length vs)
         at_next r e o = (subst (λ a. Ordered (log_length y) a) e o).0
 
@@ -517,7 +552,7 @@ module _ {B : Type 0} (same : B → B → Bool) (equal : IsEquality same) (membe
         one_pass.others j d g
         ∙ ((bidding.bid same equal members two n member low u own number seats apart others now are ups rests up rest seen is_seen sees
         rounds cast past
-        most from room slots mays votes_are own_votes flats plains flat own_plain belows own_below heard eights enough).others j d g
+        most from room slots mays votes_are own_votes flats plains flat own_plain belows own_below level heard eights enough).others j d g
         ∙ (bidding.started same equal members two n member low u own number seats apart others now are ups rests up rest seen is_seen sees
         rounds cast
         past most).others j d)

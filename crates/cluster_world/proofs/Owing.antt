@@ -10,10 +10,11 @@ use Rattle.paxos_packets.specs.declared.entry.Entry.TheVariants.{Noop, Boot, Los
 use Rattle.replica_machine.specs.declared.roll.Standing.{Standing}
 use Rattle.replica_machine.specs.declared.roll.Standing.TheVariants.{Unknown, Live, Gone}
 use Rattle.replica_machine.specs.Effects.{is_the}
-use Rattle.replica_machine.specs.Roll.{is_new_boot, is_live, is_next, gone, standing_after, standing, was_taken, is_wanted, live_in, taken_in}
+use Rattle.replica_machine.specs.Roll.{is_new_boot, is_live, is_next, gone, standing_after, standing, was_taken, is_wanted_by, live_in, taken_in}
 use Rattle.replica_machine.proofs.Places.{standing_last, live_boot_is, items_taken_is}
 use Rattle.paxos_planning.specs.Node.{NodeState, Plan}
-use Rattle.paxos_node.specs.Applying.{standing_of, note, ends, go_down, apply_all}
+use Rattle.paxos_node.specs.Applying.{base, standing_of, note, ends, go_down, apply_all}
+use Rattle.paxos_node.specs.Snapshots.{boot_in}
 use Rattle.cluster_world.specs.Has.{Has, here, there}
 use Rattle.cluster_world.specs.Origins.{Act}
 use Rattle.cluster_world.specs.Owed.{is_any_lost, items_after, owed}
@@ -93,6 +94,9 @@ next_early b c q (Gone d) e h = absurd (off h)
 abbrev pub MayStand : ℕ → Standing → ℕ → Type 0
 MayStand b s taken = Early b s ⊎ ((q : ℕ) × (s ≡ Live b q) × (q ≤ taken))
 
+not_yet : (b q i : ℕ) → q < i → was_taken (Live b q) b i ≡ false
+not_yet b q i l = ap (λ z. z && leb i q) (eq-eqb b b refl) ∙ lt-leb i q l
+
 module _ {B : Type 0} (n b : ℕ) where
   pub owed_early : (s : Standing) → Early b s → (acts : List (Act B)) → owed_by n b s acts ≡ whole n b acts
   owed_early s e acts = cond-false (is_live s b) (items_after n b (taken_in s) (drop (taken_in s) acts)) (whole n b acts) e.not_live
@@ -100,84 +104,82 @@ module _ {B : Type 0} (n b : ℕ) where
   pub owed_live : (q : ℕ) (acts : List (Act B)) → owed_by n b (Live b q) acts ≡ items_after n b q (drop q acts)
   owed_live q acts = cond-true (eqb b b) (items_after n b q (drop q acts)) (whole n b acts) (eq-eqb b b refl)
 
-  module _ (log : List (Entry B)) where
+  -- where the nodes stand so
+  module _ (places : ℕ → Standing) where
     abbrev pub Wants : List (Entry B) → List (Entry B)
-    Wants es = filter (is_wanted log) es
+    Wants es = filter (is_wanted_by places) es
 
-    items_stay : (s : Standing) → standing n log ≡ s → (j : ℕ) (acts : List (Act B)) → ((i : ℕ) → j < i → was_taken s b i ≡ false)
+    items_stay : (s : Standing) → places n ≡ s → (j : ℕ) (acts : List (Act B)) → ((i : ℕ) → j < i → was_taken s b i ≡ false)
         → Wants (items_after n b j acts) ≡ items_after n b j acts
     items_stay s is j [] h = refl
     items_stay s is j (a ∷ acts) h =
-        cond-true (not (was_taken (standing n log) b (suc j))) (Item n b (suc j) a.transport a.body ∷ Wants (items_after n b (suc j) acts))
+        cond-true (not (was_taken (places n) b (suc j))) (Item n b (suc j) a.transport a.body ∷ Wants (items_after n b (suc j) acts))
         (Wants (items_after n b (suc j) acts)) (ap (λ z. not (was_taken z b (suc j))) is ∙ ap not (h (suc j) (omega arith)))
         ∙ ap (λ l. Item n b (suc j) a.transport a.body ∷ l) (items_stay s is (suc j) acts (λ i l. h i (omega arith)))
 
-    not_yet : (q i : ℕ) → q < i → was_taken (Live b q) b i ≡ false
-    not_yet q i l = ap (λ z. z && leb i q) (eq-eqb b b refl) ∙ lt-leb i q l
-
-    early_stays : (s : Standing) → standing n log ≡ s → Early b s → (acts : List (Act B)) → Wants (whole n b acts) ≡ whole n b acts
+    early_stays : (s : Standing) → places n ≡ s → Early b s → (acts : List (Act B)) → Wants (whole n b acts) ≡ whole n b acts
     early_stays s is e acts =
-        cond-true (is_new_boot (standing n log) b) (Boot n b ∷ Wants (items_after n b 0 acts)) (Wants (items_after n b 0 acts))
+        cond-true (is_new_boot (places n) b) (Boot n b ∷ Wants (items_after n b 0 acts)) (Wants (items_after n b 0 acts))
         (ap (λ z. is_new_boot z b) is ∙ e.fresh)
         ∙ ap (λ l. Boot n b ∷ l) (items_stay s is 0 acts (λ i l. e.untaken i))
 
-    live_stays : (q : ℕ) → standing n log ≡ Live b q → (acts : List (Act B))
+    live_stays : (q : ℕ) → places n ≡ Live b q → (acts : List (Act B))
         → Wants (items_after n b q (drop q acts)) ≡ items_after n b q (drop q acts)
-    live_stays q is acts = items_stay (Live b q) is q (drop q acts) (λ i l. not_yet q i l)
+    live_stays q is acts = items_stay (Live b q) is q (drop q acts) (λ i l. not_yet b q i l)
 
-    begins : standing n log ≡ Live b 0 → (acts : List (Act B)) → Wants (whole n b acts) ≡ items_after n b 0 acts
+    begins : places n ≡ Live b 0 → (acts : List (Act B)) → Wants (whole n b acts) ≡ items_after n b 0 acts
     begins is acts =
-        cond-false (is_new_boot (standing n log) b) (Boot n b ∷ Wants (items_after n b 0 acts)) (Wants (items_after n b 0 acts))
+        cond-false (is_new_boot (places n) b) (Boot n b ∷ Wants (items_after n b 0 acts)) (Wants (items_after n b 0 acts))
         (ap (λ z. is_new_boot z b) is ∙ le-ltb b b (omega arith))
-        ∙ items_stay (Live b 0) is 0 acts (λ i l. not_yet 0 i l)
+        ∙ items_stay (Live b 0) is 0 acts (λ i l. not_yet b 0 i l)
 
-    one_more : (q : ℕ) → standing n log ≡ Live b (suc q) → (acts : List (Act B)) → suc q ≤ length acts
+    one_more : (q : ℕ) → places n ≡ Live b (suc q) → (acts : List (Act B)) → suc q ≤ length acts
         → Wants (items_after n b q (drop q acts)) ≡ items_after n b (suc q) (drop (suc q) acts)
     one_more q is acts l =
         let d = drop_split q acts l in
         ap (λ ds. Wants (items_after n b q ds)) d.1
-        ∙ (cond-false (not (was_taken (standing n log) b (suc q)))
+        ∙ (cond-false (not (was_taken (places n) b (suc q)))
         (Item n b (suc q) (d.0).transport (d.0).body ∷ Wants (items_after n b (suc q) (drop (suc q) acts)))
         (Wants (items_after n b (suc q) (drop (suc q) acts)))
         (ap (λ z. not (was_taken z b (suc q))) is
         ∙ ap not (and_from (eqb b b) (leb (suc q) (suc q)) (eq-eqb b b refl) (le-leb (suc q) (suc q) (omega arith))))
-        ∙ items_stay (Live b (suc q)) is (suc q) (drop (suc q) acts) (λ i l. not_yet (suc q) i l))
+        ∙ items_stay (Live b (suc q)) is (suc q) (drop (suc q) acts) (λ i l. not_yet b (suc q) i l))
 
     -- what is owed goes on with the standing
     abbrev pub Goes : Standing → List (Act B) → Standing → Type 0
     Goes s acts new = MayStand b new (length acts) × (Wants (owed_by n b s acts) ≡ owed_by n b new acts)
 
-    pub stays : (s : Standing) (acts : List (Act B)) → MayStand b s (length acts) → standing n log ≡ s → Goes s acts s
+    pub stays : (s : Standing) (acts : List (Act B)) → MayStand b s (length acts) → places n ≡ s → Goes s acts s
     stays s acts (inl e) is = (
       inl e,
       ap (λ l. Wants l) (owed_early s e acts) ∙ early_stays s is e acts ∙ sym (owed_early s e acts),
     )
     stays s acts (inr m) is = (
       inr m,
-      subst (λ z. standing n log ≡ z → Wants (owed_by n b z acts) ≡ owed_by n b z acts) (sym m.1)
+      subst (λ z. places n ≡ z → Wants (owed_by n b z acts) ≡ owed_by n b z acts) (sym m.1)
           (λ is. ap (λ l. Wants l) (owed_live m.0 acts) ∙ live_stays m.0 is acts ∙ sym (owed_live m.0 acts)) is,
     )
 
-    early_on : (s new : Standing) (acts : List (Act B)) → Early b s → Early b new → standing n log ≡ new → Goes s acts new
+    early_on : (s new : Standing) (acts : List (Act B)) → Early b s → Early b new → places n ≡ new → Goes s acts new
     early_on s new acts e f is = (
       inl f,
       ap (λ l. Wants l) (owed_early s e acts) ∙ early_stays new is f acts ∙ sym (owed_early new f acts),
     )
 
-    boot_on : (s : Standing) (acts : List (Act B)) → Early b s → standing n log ≡ Live b 0 → Goes s acts (Live b 0)
+    boot_on : (s : Standing) (acts : List (Act B)) → Early b s → places n ≡ Live b 0 → Goes s acts (Live b 0)
     boot_on s acts e is = (
       inr (0, refl, omega arith),
       ap (λ l. Wants l) (owed_early s e acts) ∙ begins is acts ∙ sym (owed_live 0 acts),
     )
 
-    item_on : (q : ℕ) (acts : List (Act B)) → suc q ≤ length acts → standing n log ≡ Live b (suc q) → Goes (Live b q) acts (Live b (suc q))
+    item_on : (q : ℕ) (acts : List (Act B)) → suc q ≤ length acts → places n ≡ Live b (suc q) → Goes (Live b q) acts (Live b (suc q))
     item_on q acts l is = (
       inr (suc q, refl, l),
       ap (λ l. Wants l) (owed_live q acts) ∙ one_more q is acts l ∙ sym (owed_live (suc q) acts),
     )
 
     -- an entry more
-    step : (s : Standing) (acts : List (Act B)) (e : Entry B) → MayStand b s (length acts) → standing n log ≡ standing_after n s e
+    step : (s : Standing) (acts : List (Act B)) (e : Entry B) → MayStand b s (length acts) → places n ≡ standing_after n s e
         → ((c : ℕ) → e ≡ Boot n c → c ≤ b) → ((q t : ℕ) (x : B) → e ≡ Item n b q t x → q ≤ length acts)
         → (e ≡ Lost n b → is_live s b ≡ true → ⊥)
         → Goes s acts (standing_after n s e)
@@ -190,20 +192,20 @@ module _ {B : Type 0} (n b : ℕ) where
         same : c ≤ b → b ≤ c → c ≡ b
         same l g = omega arith
 
-        go : (z : Bool) → (eqb k n && is_new_boot s c) ≡ z → standing n log ≡ (if z then Live c 0 else s) → Goes s acts (if z then Live c 0 else s)
+        go : (z : Bool) → (eqb k n && is_new_boot s c) ≡ z → places n ≡ (if z then Live c 0 else s) → Goes s acts (if z then Live c 0 else s)
         go false t is = stays s acts m is
         go true t is =
             let p = and_parts (eqb k n) (is_new_boot s c) t in
             let le = boots c (ap (λ j. Boot j c) (eqb-true k n p.0)) in
             ⊎_elim
             (λ (e : Early b s). ⊎_elim (λ (l : c < b). early_on s (Live c 0) acts e (early_live b c 0 l) is)
-            (λ (g : b ≤ c). subst (λ d. standing n log ≡ Live d 0 → Goes s acts (Live d 0)) (sym (same le g)) (λ is. boot_on s acts e is) is)
+            (λ (g : b ≤ c). subst (λ d. places n ≡ Live d 0 → Goes s acts (Live d 0)) (sym (same le g)) (λ is. boot_on s acts e is) is)
             (cases_lt c b))
             (λ (q : (q : ℕ) × (s ≡ Live b q) × (q ≤ length acts)). absurd (live q.0 q.1 le p.1))
             m
     step s acts (Lost k c) m is boots items lost = go (eqb k n && is_live s c) refl is
       where
-        go : (z : Bool) → (eqb k n && is_live s c) ≡ z → standing n log ≡ (if z then gone s else s) → Goes s acts (if z then gone s else s)
+        go : (z : Bool) → (eqb k n && is_live s c) ≡ z → places n ≡ (if z then gone s else s) → Goes s acts (if z then gone s else s)
         go false t is = stays s acts m is
         go true t is =
             let p = and_parts (eqb k n) (is_live s c) t in
@@ -215,7 +217,7 @@ module _ {B : Type 0} (n b : ℕ) where
             m
     step s acts (Item k c q t x) m is boots items lost = go (eqb k n && is_next s c q) refl is
       where
-        go : (z : Bool) → (eqb k n && is_next s c q) ≡ z → standing n log ≡ (if z then Live c q else s) → Goes s acts (if z then Live c q else s)
+        go : (z : Bool) → (eqb k n && is_next s c q) ≡ z → places n ≡ (if z then Live c q else s) → Goes s acts (if z then Live c q else s)
         go false t is = stays s acts m is
         go true y is =
             let p = and_parts (eqb k n) (is_next s c q) y in
@@ -226,7 +228,7 @@ module _ {B : Type 0} (n b : ℕ) where
             let bc = eqb-true b c h.0 in
             let next = eqb-true q (r.0 + 1) h.1 ∙ plus_one r.0 in
             let le = items q t x (λ i. Item (eqb-true k n p.0 i) (sym bc i) q t x) in
-            subst (λ (z : Standing × ℕ × ℕ). standing n log ≡ Live z.1 z.2 → Goes z.0 acts (Live z.1 z.2)) (λ i. (sym r.1 i, bc i, sym next i))
+            subst (λ (z : Standing × ℕ × ℕ). places n ≡ Live z.1 z.2 → Goes z.0 acts (Live z.1 z.2)) (λ i. (sym r.1 i, bc i, sym next i))
             (λ is. item_on r.0 acts (subst (λ k. k ≤ length acts) next le) is) is)
             m
           where
@@ -249,14 +251,17 @@ module _ {B : Type 0} (n : ℕ) (acts : List (Act B)) where
   noted e o ok stays_up boots items =
       record {
         may = subst (λ s. MayStand o.node.rows.boot s (length acts)) (sym last) goes.0;
-        is = filter_swap kept (is_wanted (o.node.applied ++ e ∷ [])) o.node.pending
-            ∙ ap (λ l. filter (is_wanted (o.node.applied ++ e ∷ [])) l) ok.is
+        is = filter_swap kept (is_wanted_by after) o.node.pending
+            ∙ ap (λ l. filter (is_wanted_by after) l) ok.is
             ∙ goes.1
             ∙ ap (λ s. owed_by n o.node.rows.boot s acts) (sym last);
       }
     where
-      last : standing n (o.node.applied ++ e ∷ []) ≡ standing_after n (standing_of o.node n) e
-      last = standing_last n Unknown o.node.applied e
+      after : ℕ → Standing
+      after = standing_of (note e o).node
+
+      last : after n ≡ standing_after n (standing_of o.node n) e
+      last = standing_last n (base o.node.rows n) o.node.applied e
 
       lost : e ≡ Lost n o.node.rows.boot → is_live (standing_of o.node n) o.node.rows.boot ≡ true → ⊥
       lost i l =
@@ -266,9 +271,9 @@ module _ {B : Type 0} (n : ℕ) (acts : List (Act B)) where
           ∙ and_from (eqb n n && eqb o.node.rows.boot o.node.rows.boot) (is_live (standing_of o.node n) o.node.rows.boot)
           (and_from (eqb n n) (eqb o.node.rows.boot o.node.rows.boot) (eq-eqb n n refl) (eq-eqb o.node.rows.boot o.node.rows.boot refl)) l)
 
-      goes : Goes n o.node.rows.boot (o.node.applied ++ e ∷ []) (standing_of o.node n) acts
+      goes : Goes n o.node.rows.boot after (standing_of o.node n) acts
           (standing_after n (standing_of o.node n) e)
-      goes = step n o.node.rows.boot (o.node.applied ++ e ∷ []) (standing_of o.node n) acts e ok.may last boots items lost
+      goes = step n o.node.rows.boot after (standing_of o.node n) acts e ok.may last boots items lost
 
   first_is : {x y : Entry B} (es : List (Entry B)) → y ≡ x → Has (y ∷ es) x
   first_is {x} {y} es e = subst (λ z. Has (y ∷ es) z) e here
@@ -323,12 +328,24 @@ module _ {B : Type 0} (n : ℕ) (acts : List (Act B)) where
       back : (k l : ℕ) → k ≤ l → k + (l - k) ≡ l
       back k l h = omega arith
 
+-- a node that rests on another's snapshot: its boot is live neither there nor where it stood
+pub rested_owed : {B : Type 0} (n b : ℕ) (places : ℕ → Standing) (s : Standing) (acts : List (Act B)) → Early b s → Early b (places n)
+    → filter (is_wanted_by places) (owed_by n b s acts) ≡ owed_by n b (places n) acts
+rested_owed n b places s acts e f = (early_on n b places s (places n) acts e f refl).1
+
+-- its boot is not live with a greater one
+pub boot_early : (b : ℕ) (s : Standing) → boot_in s < b → Early b s
+boot_early b Unknown l = early_unknown b
+boot_early b (Live c q) l = early_live b c q l
+boot_early b (Gone c) l = early_gone b c l
+
 -- by places in the log
-pub owed_is : {B : Type 0} (n : ℕ) (x : NodeState B) (acts : List (Act B)) → owed_by n x.rows.boot (standing_of x n) acts ≡ owed n x acts
-owed_is n x acts i =
-    if (the_live (standing_of x n) x.rows.boot ∙ ap (λ o. is_the o x.rows.boot) (sym (live_boot_is n x.applied))) i
-    then items_after n x.rows.boot (sym (items_taken_is n x.applied) i) (drop (sym (items_taken_is n x.applied) i) acts)
-    else Boot n x.rows.boot ∷ items_after n x.rows.boot 0 acts
+pub owed_is : {B : Type 0} (n : ℕ) (log : List (Entry B)) (boot : ℕ) (acts : List (Act B))
+    → owed_by n boot (standing n log) acts ≡ owed n log boot acts
+owed_is n log boot acts i =
+    if (the_live (standing n log) boot ∙ ap (λ o. is_the o boot) (sym (live_boot_is n log))) i
+    then items_after n boot (sym (items_taken_is n log) i) (drop (sym (items_taken_is n log) i) acts)
+    else Boot n boot ∷ items_after n boot 0 acts
   where
     the_live : (s : Standing) (b : ℕ) → is_live s b ≡ is_the (live_in s) b
     the_live Unknown b = refl

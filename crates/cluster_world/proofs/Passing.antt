@@ -7,7 +7,7 @@ use Rattle.std.specs.List.{flat_map, list_any}
 use Rattle.std.proofs.lemmas.List.{append-nil, append_assoc}
 use Rattle.std.proofs.lemmas.Bool.{cond-true, cond-false, ltb-true, lt-ltb, or_cases, eqb-true}
 use Rattle.cluster_world.proofs.AtOnce.{AtRest, settle_rest, alone_is_few}
-use Rattle.cluster_world.proofs.Casting.{HeardOwn, hears_own, counts_own, sent_to, hears_itself, hears_still}
+use Rattle.cluster_world.proofs.Casting.{HeardOwn, hears_own, none_closed, counts_own, sent_to, hears_itself, hears_still}
 use Rattle.cluster_world.proofs.EveryWorld.{WorldOk, next_ok, all_stay, play_on}
 use Rattle.cluster_world.proofs.Invariant.{IsChosen}
 use Rattle.cluster_world.proofs.Fates.{Rides, Fell, comes_back, count_heard, count_keeps, learns_it}
@@ -112,10 +112,11 @@ module _ {B : Type 0} (same : B → B → Bool) (equal : IsEquality same) (membe
     pub promised : x.rows.promised ≡ Some ballot
     pub votes_are : x.rows.votes ≡ votes
     pub plain : x.rows.snapshot ≡ None
+    pub level : x.learner.floor ≡ 0
     pub own : HeardOwn ballot k x.learner
     pub rests : AtRest x
 
-  module _ (v : Vote B) (mine : v.ballot ≡ ballot) where
+  module _ (v : Vote B) (mine : v.ballot ≡ ballot) (least' : 1 ≤ v.slot) where
     abbrev pub question : ℕ → Packet B
     question k = packet n (Accept v) k
 
@@ -139,7 +140,7 @@ module _ {B : Type 0} (same : B → B → Bool) (equal : IsEquality same) (membe
 
         rests : AtRest (cast same members k v t).node
         rests =
-            (λ i. run_from (suc (log_length x)) (counts_own members many ballot 0 k v x.learner mine
+            (λ i. run_from (suc (log_length x)) (counts_own members many ballot 0 k v x.learner ready.level least' mine
             (least v.slot) ready.own i).learned) ∙ ready.rests
 
     after_cast : (k : ℕ) (votes : List (Vote B)) (x : NodeState B) → Ready k votes x
@@ -152,12 +153,13 @@ module _ {B : Type 0} (same : B → B → Bool) (equal : IsEquality same) (membe
           promised = ap (λ c. Some c) mine;
           votes_are = ap (put_vote v) ready.votes_are;
           plain = ready.plain;
+          level = ap (λ (l : LearnerState B). l.floor) quiet ∙ ready.level;
           own = subst (λ l. HeardOwn ballot k l) (sym quiet) (hears_own ballot 0 k v x.learner ready.own);
           rests = (λ i. run_from (suc (log_length x)) (quiet i).learned) ∙ ready.rests;
         })
       where
         quiet : count_vote members k v x.learner ≡ hears k v x.learner
-        quiet = counts_own members many ballot 0 k v x.learner mine (least v.slot) ready.own
+        quiet = counts_own members many ballot 0 k v x.learner ready.level least' mine (least v.slot) ready.own
 
     -- what is known of the node as the vote comes back from these helpers, and these votes came back before
     module _ (passed : List (Vote B)) where
@@ -181,7 +183,7 @@ module _ {B : Type 0} (same : B → B → Bool) (equal : IsEquality same) (membe
             ride = ride;
             counted = λ j h. subst (λ (l : LearnerState B). is_in (nodes_heard (place_of v) l.heard) j ≡ true) (sym is) (heard j h);
             learns = λ m. subst (λ (l : LearnerState B). is_learned v.slot l.learned ≡ true) (sym is)
-                (learns_it members k v x.learner (majority_more members (among (n ∷ k ∷ ks))
+                (learns_it members k v x.learner (none_closed x.learner.floor v.slot c.ride.level least') (majority_more members (among (n ∷ k ∷ ks))
                 (is_in (nodes_heard (place_of v) (hears k v x.learner).heard))
                 (λ j a. heard_hears j (among_has (n ∷ k ∷ ks) j a)) m));
             done = λ u h. subst (λ (l : LearnerState B). is_learned u.slot l.learned ≡ true) (sym is)
@@ -198,7 +200,8 @@ module _ {B : Type 0} (same : B → B → Bool) (equal : IsEquality same) (membe
               old i g = hears_still k v x.learner c.ride.eights (place_of v) i (c.counted i g)
 
           heard : (j : ℕ) → Has (n ∷ k ∷ ks) j → is_in (nodes_heard (place_of v) (count_vote members k v x.learner).heard) j ≡ true
-          heard j h = subst (λ hs. is_in (nodes_heard (place_of v) hs) j ≡ true) (sym (count_heard members k v x.learner)) (heard_hears j h)
+          heard j h = subst (λ hs. is_in (nodes_heard (place_of v) hs) j ≡ true)
+              (sym (count_heard members k v x.learner (none_closed x.learner.floor v.slot c.ride.level least'))) (heard_hears j h)
 
       module _ (votes : ℕ → List (Vote B)) (now : Seat B → NodeState B) where
         -- what is known of a helper before it is asked
@@ -273,7 +276,7 @@ module _ {B : Type 0} (same : B → B → Bool) (equal : IsEquality same) (membe
                           (stepped same members (Deliver (answer k)) (node_at u.nodes n)) l g.0)
                           (sym (back.sends c.ride.up)) g.1),
                     ))
-                    (comes_back same equal members many n y u ok_u k v (has_among same equal (answer k) u.sent sent) c.es c.ride)
+                    (comes_back same equal members many n y u ok_u k v (has_among same equal (answer k) u.sent sent) least' c.es c.ride)
 
             fallen : (es : List (Entry B)) × Fell same equal members many n y (node_at w.nodes n) w.sent es → Fates
             fallen f =
@@ -334,9 +337,9 @@ module _ {B : Type 0} (same : B → B → Bool) (equal : IsEquality same) (membe
 
   module _ (seats : List (Seat B)) (apart : Apart n seats) (lows : (s : Seat B) → Has seats s → s.number < 8)
       (enough : is_majority members (among (n ∷ counted_by seats)) ≡ true) where
-    begins : (v : Vote B) (mine : v.ballot ≡ ballot) (passed : List (Vote B)) (w : World B)
-        → is_in (nodes_heard (place_of v) y.learner.heard) n ≡ true → KnowsAll w passed → Knows v mine passed w []
-    begins v mine passed w heard k =
+    begins : (v : Vote B) (mine : v.ballot ≡ ballot) (least' : 1 ≤ v.slot) (passed : List (Vote B)) (w : World B)
+        → is_in (nodes_heard (place_of v) y.learner.heard) n ≡ true → KnowsAll w passed → Knows v mine least' passed w []
+    begins v mine least' passed w heard k =
         record {
           ok = k.ok;
           fate = ⊎_elim
@@ -351,9 +354,10 @@ module _ {B : Type 0} (same : B → B → Bool) (equal : IsEquality same) (membe
               (λ f. inr f) k.fate;
         }
 
-    ends : (v : Vote B) (mine : v.ballot ≡ ballot) (passed : List (Vote B)) (w : World B) → Knows v mine passed w (counted_by seats)
+    ends : (v : Vote B) (mine : v.ballot ≡ ballot) (least' : 1 ≤ v.slot) (passed : List (Vote B)) (w : World B)
+        → Knows v mine least' passed w (counted_by seats)
         → KnowsAll w (passed ++ v ∷ [])
-    ends v mine passed w k =
+    ends v mine least' passed w k =
         record {
           ok = k.ok;
           fate = ⊎_elim
@@ -370,19 +374,21 @@ module _ {B : Type 0} (same : B → B → Bool) (equal : IsEquality same) (membe
 
     -- these votes of the leader are cast by all, and come back
     pub passes : (vs passed : List (Vote B)) (votes : ℕ → List (Vote B)) (w : World B) → ((v : Vote B) → Has vs v → v.ballot ≡ ballot)
+        → ((v : Vote B) → Has vs v → 1 ≤ v.slot)
         → ((v : Vote B) → Has vs v → is_in (nodes_heard (place_of v) y.learner.heard) n ≡ true)
         → ((v : Vote B) (s : Seat B) → Has vs v → Has seats s → Has w.sent (packet n (Accept v) s.number))
         → ((s : Seat B) → Has seats s → Ready s.number (votes s.number) (node_at w.nodes s.number)) → KnowsAll w passed
         → Passed seats votes vs passed w (play same members (pass n seats vs) w)
-    passes [] passed votes w mine heard asked ready knows =
+    passes [] passed votes w mine from_one heard asked ready knows =
         record { helpers = ready; knows = subst (λ l. KnowsAll w l) (sym (append-nil passed)) knows; others = λ j d g. refl }
-    passes (v ∷ vs) passed votes w mine heard asked ready knows =
+    passes (v ∷ vs) passed votes w mine from_one heard asked ready knows =
         joined
-        (passes vs (passed ++ v ∷ []) (λ k. put_vote v (votes k)) u (λ z h. mine z (there h)) (λ z h. heard z (there h))
+        (passes vs (passed ++ v ∷ []) (λ k. put_vote v (votes k)) u (λ z h. mine z (there h)) (λ z h. from_one z (there h))
+        (λ z h. heard z (there h))
         (λ z s h i. all_stay same members (flat_map (cast_by n v) seats) w (packet n (Accept z) s.number) (asked z s (there h) i))
         (λ s h. subst (λ x. Ready s.number (put_vote v (votes s.number)) x) (sym (first.helpers s h))
-        (ready_then v (mine v here) passed votes now s (ready s h)))
-        (ends v (mine v here) passed u first.own))
+        (ready_then v (mine v here) (from_one v here) passed votes now s (ready s h)))
+        (ends v (mine v here) (from_one v here) passed u first.own))
       where
         now : Seat B → NodeState B
         now s = node_at w.nodes s.number
@@ -390,12 +396,13 @@ module _ {B : Type 0} (same : B → B → Bool) (equal : IsEquality same) (membe
         u : World B
         u = play same members (flat_map (cast_by n v) seats) w
 
-        first : AllVisited same members n (Knows v (mine v here) passed) now (cast_then v (mine v here) passed votes now) (cast_by n v)
-            (cast_turn v (mine v here) passed votes now) (Due v (mine v here) passed votes now) seats (counted_by seats) w u
+        first : AllVisited same members n (Knows v (mine v here) (from_one v here) passed) now
+            (cast_then v (mine v here) (from_one v here) passed votes now) (cast_by n v)
+            (cast_turn v (mine v here) (from_one v here) passed votes now) (Due v (mine v here) (from_one v here) passed votes now) seats (counted_by seats) w u
         first =
-            cast_all v (mine v here) passed votes now seats w apart
+            cast_all v (mine v here) (from_one v here) passed votes now seats w apart
             (λ s h. record { asked = asked v s here h; low_is = lows s h; ready = ready s h }) (λ s h. refl)
-            (begins v (mine v here) passed w (heard v here) knows)
+            (begins v (mine v here) (from_one v here) passed w (heard v here) knows)
 
         joined : Passed seats (λ k. put_vote v (votes k)) vs (passed ++ v ∷ []) u (play same members (pass n seats vs) u)
             → Passed seats votes (v ∷ vs) passed w (play same members (pass n seats (v ∷ vs)) w)

@@ -1,51 +1,45 @@
 -- What is pending, in every world: what a node owes, and Losts of live boots; no more than there is room for.
-use Rattle.std.proofs.Common.{◌≡◌, ◌⊎◌, inl, inr, ⊎_elim, ℕ, zero, suc, ◌+◌, ◌<◌, ◌≤◌, Bool, true, false, refl, sym, ap, ◌∙◌, subst, arith}
+use Rattle.std.proofs.Common.{◌≡◌, ◌⊎◌, inl, inr, ⊎_elim, ℕ, suc, ◌+◌, ◌<◌, ◌≤◌, Bool, true, false, refl, sym, ap, ◌∙◌, subst, arith}
 use Rattle.cluster_world.proofs.Booting.{made_lost}
 use Rattle.std.proofs.Common.{List, [], ◌∷◌, ◌++◌, length, append_assoc, Option, Some, None}
-use Rattle.std.specs.Prelude.{filter, slice_get, slice_index_or, nat_lt, if◌then◌else◌, not}
+use Rattle.std.specs.Prelude.{filter, slice_get, nat_lt, if◌then◌else◌, not}
 use Rattle.std.proofs.lemmas.List.{append-nil, length-append}
 use Rattle.std.proofs.lemmas.Option.{slice_get_past}
 use Rattle.std.proofs.lemmas.Bool.{cond_both, cases_eq, cases_lt, and_parts, eq-eqb, ltb-true, cond-false}
-use Rattle.cluster_world.proofs.Lists.{has_nil, has_one, has_cases, has_filter}
-use Rattle.cluster_world.proofs.EveryWorld.{within, node_same, node_other}
-use Rattle.cluster_world.proofs.Standing.{acts_after, Leaves, event_leaves}
-use Rattle.cluster_world.proofs.Handing.{Ran, Began, event_cases}
-use Rattle.cluster_world.proofs.Taking.{May, by_next, founded_length, acts_ok}
+use Rattle.cluster_world.proofs.Lists.{has_nil, has_one, has_cases, has_filter, has_passes}
+use Rattle.cluster_world.proofs.EveryWorld.{within, node_same, node_other, play_on}
+use Rattle.cluster_world.proofs.Standing.{Keeps, Cuts, Takes, Turned, turns, Ran, Began, event_cases}
+use Rattle.cluster_world.proofs.Heads.{stands, cut_stands}
+use Rattle.cluster_world.proofs.Taking.{May, by_next, in_every, founded_each, acts_ok}
 use Rattle.cluster_world.proofs.Waiting.{suspected_is, not_itself}
-use Rattle.cluster_world.proofs.Applied.{in_every}
 use Rattle.cluster_world.proofs.Owing.{kept}
 use Rattle.cluster_world.specs.Has.{Has, here, there}
 use Rattle.paxos_packets.specs.declared.entry.Entry.{Entry}
 use Rattle.paxos_packets.specs.declared.entry.Entry.TheVariants.{Boot, Lost}
 use Rattle.paxos_packets.specs.declared.rows.Rows.{Rows}
-use Rattle.paxos_packets.specs.Rows.{raised, last_boot, first_rows}
+use Rattle.paxos_packets.specs.Body.{IsEquality}
+use Rattle.paxos_packets.specs.Snapshot as taken
+use Rattle.paxos_packets.specs.Rows.{raised, last_boot, bare_rows, first_rows}
 use Rattle.paxos_learner.specs.Learner.{run_from}
 use Rattle.replica_machine.specs.declared.roll.Standing.{Standing}
 use Rattle.replica_machine.specs.declared.roll.Standing.TheVariants.{Unknown, Live, Gone}
 use Rattle.replica_machine.specs.Effects.{is_the}
-use Rattle.replica_machine.specs.Roll.{is_live, standing, is_wanted, live_in}
+use Rattle.replica_machine.specs.Roll.{is_live, standing_from, standing, is_wanted_by, live_in}
 use Rattle.replica_machine.proofs.Places.{live_boot_is}
 use Rattle.paxos_node.specs.declared.event.Event.{Event}
-use Rattle.paxos_node.specs.declared.event.Event.TheVariants.{Take, Tick, Start, Suspect, Deliver, Crash, Restart}
+use Rattle.paxos_node.specs.declared.event.Event.TheVariants.{Take, Tick, Start, Suspect, Deliver, Cut, Crash, Restart}
 use Rattle.paxos_planning.specs.Node.{NodeState, Plan, log_length}
 use Rattle.paxos_planning.specs.Plan.{begun}
-use Rattle.paxos_node.specs.Applying.{standing_of, down, started, note, ends, go_down, apply_all}
+use Rattle.paxos_node.specs.Applying.{stands_at, standing_of, down, started, note, ends, go_down, apply_all}
+use Rattle.paxos_node.specs.Snapshots.{may_cut}
 use Rattle.paxos_node.specs.Events.{takes, new_item, has_room, most_pending, new_lost, last_number, suspected_by, owner, possible, on_event, outcome_of, made_by}
-use Rattle.cluster_world.specs.World.{World, absent, node_at, put_node, founded, first_world, done, next, played, log_of}
+use Rattle.cluster_world.specs.World.{World, node_at, put_node, first_world, done, next, played, log_of}
 use Rattle.cluster_world.specs.Owed.{TakenAreCounted, PendingLostsAreLive, PendingIsFew, DownIsRows}
 
 off : false ≡ true → ⊥
 off e = cc
 
 -- lists
-
-has_passes : {A : Type 0} (test : A → Bool) (xs : List A) {x : A} → Has (filter test xs) x → test x ≡ true
-has_passes test [] h = absurd (has_nil h)
-has_passes test (y ∷ xs) {x} h =
-    cond_both (test y) (y ∷ filter test xs) (filter test xs) (λ zs. Has zs x → test x ≡ true)
-    (λ e g. ⊎_elim (λ s. subst (λ z. test z ≡ true) (has_one s) e) (λ r. has_passes test xs r) (has_cases (y ∷ []) (filter test xs) g))
-    (λ e g. has_passes test xs g)
-    h
 
 filter_few : {A : Type 0} (test : A → Bool) (xs : List A) → length (filter test xs) ≤ length xs
 filter_few test [] = omega arith
@@ -68,67 +62,67 @@ pub no_length : {A : Type 0} (xs : List A) → length xs ≡ 0 → xs ≡ []
 no_length [] e = refl
 no_length (x ∷ xs) e = absurd (omega arith)
 
--- the nodes of the first world
-pub founded_each : {B : Type 0} (P : ℕ → NodeState B → Type 0) → ((k : ℕ) → P (suc k) (started (suc k) first_rows)) → ((k : ℕ) → P k absent)
-    → (n k : ℕ) → P k (node_at (founded n) k)
-founded_each {B} P s a n zero = a zero
-founded_each {B} P s a n (suc k) = each n k
-  where
-    push : (xs : List (NodeState B)) (x : NodeState B) (Q : ℕ → NodeState B → Type 0) → Q (length xs) x → ((j : ℕ) → Q j absent)
-        → ((j : ℕ) → Q j (slice_index_or xs j absent)) → (j : ℕ) → Q j (slice_index_or (xs ++ x ∷ []) j absent)
-    push [] x Q q b h zero = q
-    push [] x Q q b h (suc j) = b (suc j)
-    push (y ∷ ys) x Q q b h zero = h zero
-    push (y ∷ ys) x Q q b h (suc j) = push ys x (λ i. Q (suc i)) q (λ i. b (suc i)) (λ i. h (suc i)) j
-
-    each : (m j : ℕ) → P (suc j) (slice_index_or (founded m) j absent)
-    each zero j = a (suc j)
-    each (suc m) j =
-        push (founded m) (started (suc m) first_rows) (λ i x. P (suc i) x)
-        (subst (λ i. P (suc i) (started (suc m) first_rows)) (sym (founded_length {B = B} (λ x y. true) 0 m)) (s m))
-        (λ i. a (suc i)) (λ i. each m i) j
-
 -- what needs no other node
 
+-- no more is pending than there is room for, and a node that is down has its rows alone
 record Modest {B : Type 0} (n : ℕ) (x : NodeState B) : Type 0 where
-  losts : (k b : ℕ) → Has x.pending (Lost k b) → (k ≡ n → ⊥) × (is_live (standing_of x k) b ≡ true)
   few : length x.pending ≤ most_pending
   down : (x.up ≡ true) ⊎ (x ≡ down x.rows)
 
+-- each Lost that is pending is of another node's live boot, where the node stands
+abbrev LostsOk : {B : Type 0} → ℕ → NodeState B → Type 0
+LostsOk n x = (k b : ℕ) → Has x.pending (Lost k b) → (k ≡ n → ⊥) × (is_live (standing_of x k) b ≡ true)
+
 modest_down : {B : Type 0} (n : ℕ) (rows : Rows B) → Modest n (down rows)
-modest_down n rows = record { losts = λ k b h. absurd (has_nil h); few = omega arith; down = inr refl }
+modest_down n rows = record { few = omega arith; down = inr refl }
+
+losts_down : {B : Type 0} (n : ℕ) (rows : Rows B) → LostsOk n (down rows)
+losts_down n rows k b h = absurd (has_nil h)
 
 one_pending : 1 ≤ most_pending
 unfolding most_pending
 one_pending = omega arith
 
 modest_started : {B : Type 0} (n : ℕ) (rows : Rows B) → Modest n (started n rows)
-modest_started {B} n rows = record { losts = λ k b h. absurd (differ k b (has_one h)); few = one_pending; down = inl refl }
+modest_started {B} n rows = record { few = one_pending; down = inl refl }
+
+losts_started : {B : Type 0} (n : ℕ) (rows : Rows B) → LostsOk n (started n rows)
+losts_started {B} n rows k b h = absurd (differ (has_one h))
   where
-    differ : (k b : ℕ) → ◌≡◌ {A = Entry B} (Boot n rows.boot) (Lost k b) → ⊥
-    differ k b e = cc
+    differ : ◌≡◌ {A = Entry B} (Boot n rows.boot) (Lost k b) → ⊥
+    differ e = cc
+
+le : {a b c : ℕ} → a ≤ b → b ≤ c → a ≤ c
+le a b = omega arith
+
+-- what each applied entry keeps
+applies : {B : Type 0} (n : ℕ) (P : NodeState B → Type 0) → ((rows : Rows B) → P (down rows))
+    → ((e : Entry B) (o : Plan B) → P o.node → o.node.up ≡ true → P (note e o).node)
+    → (es : List (Entry B)) (o : Plan B) → P o.node → o.node.up ≡ true → P (apply_all n es o).node
+applies n P falls keeps [] o ok up = ok
+applies n P falls keeps (e ∷ es) o ok up =
+    cond_both (ends n o.node e) (go_down (note e o)) (apply_all n es (note e o)) (λ z. P z.node)
+    (λ t. falls (note e o).node.rows)
+    (λ t. applies n P falls keeps es (note e o) (keeps e o ok up) up)
+
+-- a node stands so by its snapshot and what it applied above it
+pub stands_so : {B : Type 0} (x y : NodeState B) → x.rows.snapshot ≡ y.rows.snapshot → x.applied ≡ y.applied → (k : ℕ)
+    → standing_of x k ≡ standing_of y k
+stands_so x y p q k = λ i. standing_from k (stands_at (p i) k) (q i)
 
 module _ {B : Type 0} (n : ℕ) where
   noted : (e : Entry B) (o : Plan B) → Modest n o.node → o.node.up ≡ true → Modest n (note e o).node
   noted e o ok up =
       record {
-        losts = λ k b h. (
-          (ok.losts k b (has_filter (is_wanted (o.node.applied ++ e ∷ [])) o.node.pending h)).0,
-          has_passes (is_wanted (o.node.applied ++ e ∷ [])) o.node.pending h,
-        );
-        few = let a = filter_few (is_wanted (o.node.applied ++ e ∷ [])) o.node.pending in let b = ok.few in le a b;
+        few = le (filter_few (is_wanted_by (standing_of (note e o).node)) o.node.pending) ok.few;
         down = inl up;
       }
-    where
-      le : {a b c : ℕ} → a ≤ b → b ≤ c → a ≤ c
-      le a b = omega arith
 
-  applies : (es : List (Entry B)) (o : Plan B) → Modest n o.node → o.node.up ≡ true → Modest n (apply_all n es o).node
-  applies [] o ok up = ok
-  applies (e ∷ es) o ok up =
-      cond_both (ends n o.node e) (go_down (note e o)) (apply_all n es (note e o)) (λ z. Modest n z.node)
-      (λ t. modest_down n (note e o).node.rows)
-      (λ t. applies es (note e o) (noted e o ok up) up)
+  losts_noted : (e : Entry B) (o : Plan B) → LostsOk n o.node → o.node.up ≡ true → LostsOk n (note e o).node
+  losts_noted e o ok up k b h = (
+    (ok k b (has_filter (is_wanted_by (standing_of (note e o).node)) o.node.pending h)).0,
+    has_passes (is_wanted_by (standing_of (note e o).node)) o.node.pending h,
+  )
 
   pub applied_all : (es : List (Entry B)) (o : Plan B) → (apply_all n es o).node.up ≡ true → (apply_all n es o).node.applied ≡ o.node.applied ++ es
   applied_all [] o up = sym (append-nil o.node.applied)
@@ -168,6 +162,7 @@ module _ {B : Type 0} (same : B → B → Bool) (members : ℕ) where
       go (Start n) p = nothing
       go (Suspect n other) p = lost (new_lost same n other x)
       go (Deliver q) p = nothing
+      go (Cut n o) p = nothing
       go (Crash n) p = nothing
       go (Restart n) p =
           absurd
@@ -203,32 +198,79 @@ module _ {B : Type 0} (same : B → B → Bool) (members : ℕ) where
   by_crash (Crash n) = inl (n, refl)
   by_crash _ = inr (λ m e. cc)
 
-  event_modest : (e : Event B) (x : NodeState B) → possible e x ≡ true → Modest (owner e) x → Modest (owner e) (outcome_of same members e x).node
-  event_modest e x p ok = ⊎_elim ran began (event_cases same members e x p)
-    where
-      began : Began same members e x → Modest (owner e) (outcome_of same members e x).node
-      began r = subst (λ y. Modest (owner e) y) (sym r.is) (modest_started (owner e) (raised x.rows))
+  -- an event at a node that stays up
+  module _ (e : Event B) (x : NodeState B) (p : possible e x ≡ true) where
+    abbrev v : Plan B
+    v = on_event same members e (begun x)
 
-      ran : Ran same members e x → Modest (owner e) (outcome_of same members e x).node
-      ran r =
-          ⊎_elim
-          (λ (c : (n : ℕ) × (e ≡ Crash n)). subst (λ f. Modest (owner f) (outcome_of same members f x).node) (sym c.1) (modest_down c.0 x.rows))
-          (λ d. let l = event_leaves same members e x r.was p d in
-          applies (owner e) (run_from (suc (log_length v.node)) v.node.learner.learned) v (stays l) (l.stays.up ∙ r.was))
-          (by_crash e)
-        where
-          v : Plan B
-          v = on_event same members e (begun x)
+    abbrev es : List (Entry B)
+    es = run_from (suc (log_length v.node)) v.node.learner.learned
 
-          stays : Leaves (acts_after e x) (x.pending ++ made_by same e x) (begun x) v → Modest (owner e) v.node
-          stays l =
-              record {
-                losts = λ k b h. subst (λ log. (k ≡ owner e → ⊥) × (is_live (standing k log) b ≡ true)) (sym l.stays.log)
-                    (⊎_elim (λ a. ok.losts k b a) (λ a. made_live e x k b a)
-                    (has_cases x.pending (made_by same e x) (subst (λ es. Has es (Lost k b)) l.pending h)));
-                few = subst (λ es. length es ≤ most_pending) (sym l.pending) (made_few e x p r.was ok.few);
-                down = inl (l.stays.up ∙ r.was);
-              }
+    modest_turned : x.up ≡ true → Modest (owner e) x → Turned same e x v → Modest (owner e) v.node
+    modest_turned up ok t =
+        record {
+          few = ⊎_elim
+              (λ (k : Keeps same e x v). subst (λ l. length l ≤ most_pending) (sym k.pending) (made_few e x p up ok.few))
+              (λ r. ⊎_elim
+              (λ (k : Cuts e x v). subst (λ l. length l ≤ most_pending) (sym k.pending) ok.few)
+              (λ (k : Takes e x v). subst (λ l. length l ≤ most_pending) (sym k.pending)
+              (le (filter_few (is_wanted_by (stands_at (Some k.snapshot))) x.pending) ok.few))
+              r)
+              t.turn;
+          down = inl (t.up ∙ up);
+        }
+
+    event_modest : Modest (owner e) x → Modest (owner e) (outcome_of same members e x).node
+    event_modest ok = ⊎_elim ran began (event_cases same members e x p)
+      where
+        began : Began same members e x → Modest (owner e) (outcome_of same members e x).node
+        began r = subst (λ y. Modest (owner e) y) (sym r.is) (modest_started (owner e) (raised x.rows))
+
+        ran : Ran same members e x → Modest (owner e) (outcome_of same members e x).node
+        ran r =
+            ⊎_elim
+            (λ (c : (n : ℕ) × (e ≡ Crash n)). subst (λ f. Modest (owner f) (outcome_of same members f x).node) (sym c.1) (modest_down c.0 x.rows))
+            (λ d. let t = turns same members x r.was e p d in
+            applies (owner e) (λ y. Modest (owner e) y) (modest_down (owner e)) (noted (owner e)) es v (modest_turned r.was ok t) (t.up ∙ r.was))
+            (by_crash e)
+
+    -- where a cut leaves it standing where it stood
+    losts_turned : ((s : taken.Snapshot) → may_cut (Some s) x ≡ true → (k : ℕ) → stands_at (Some s) k ≡ standing_of x k)
+        → LostsOk (owner e) x → Turned same e x v → LostsOk (owner e) v.node
+    losts_turned stood ok t k b h =
+        ⊎_elim
+        (λ (c : Keeps same e x v). subst (λ s. (k ≡ owner e → ⊥) × (is_live s b ≡ true)) (sym (stands_so v.node x c.base c.log k))
+        (⊎_elim (λ a. ok k b a) (λ a. made_live e x k b a)
+        (has_cases x.pending (made_by same e x) (subst (λ l. Has l (Lost k b)) c.pending h))))
+        (λ r. ⊎_elim
+        (λ (c : Cuts e x v). subst (λ s. (k ≡ owner e → ⊥) × (is_live s b ≡ true))
+        (sym (there c.snapshot c.base c.log ∙ stood c.snapshot c.may k)) (ok k b (subst (λ l. Has l (Lost k b)) c.pending h)))
+        (λ (c : Takes e x v). let g = subst (λ l. Has l (Lost k b)) c.pending h in
+        subst (λ s. (k ≡ owner e → ⊥) × (is_live s b ≡ true)) (sym (there c.snapshot c.base c.log)) (
+          (ok k b (has_filter (is_wanted_by (stands_at (Some c.snapshot))) x.pending g)).0,
+          has_passes (is_wanted_by (stands_at (Some c.snapshot))) x.pending g,
+        ))
+        r)
+        t.turn
+      where
+        there : (s : taken.Snapshot) → v.node.rows.snapshot ≡ Some s → v.node.applied ≡ [] → standing_of v.node k ≡ stands_at (Some s) k
+        there s i j = λ q. standing_from k (stands_at (i q) k) (j q)
+
+    event_losts : ((s : taken.Snapshot) → x.up ≡ true → may_cut (Some s) x ≡ true → (k : ℕ) → stands_at (Some s) k ≡ standing_of x k)
+        → LostsOk (owner e) x → LostsOk (owner e) (outcome_of same members e x).node
+    event_losts stood ok = ⊎_elim ran began (event_cases same members e x p)
+      where
+        began : Began same members e x → LostsOk (owner e) (outcome_of same members e x).node
+        began r = subst (λ y. LostsOk (owner e) y) (sym r.is) (losts_started (owner e) (raised x.rows))
+
+        ran : Ran same members e x → LostsOk (owner e) (outcome_of same members e x).node
+        ran r =
+            ⊎_elim
+            (λ (c : (n : ℕ) × (e ≡ Crash n)). subst (λ f. LostsOk (owner f) (outcome_of same members f x).node) (sym c.1) (losts_down c.0 x.rows))
+            (λ d. let t = turns same members x r.was e p d in
+            applies (owner e) (λ y. LostsOk (owner e) y) (losts_down (owner e)) (losts_noted (owner e)) es v
+            (losts_turned (λ s may k. stood s r.was may k) ok t) (t.up ∙ r.was))
+            (by_crash e)
 
   abbrev AllModest : World B → Type 0
   AllModest w = (k : ℕ) → Modest k (node_at w.nodes k)
@@ -253,15 +295,55 @@ module _ {B : Type 0} (same : B → B → Bool) (members : ℕ) where
       in_every same members (λ w. AllModest w) next_modest events (first_world members)
       (λ k. founded_each (λ j x. Modest j x) (λ j. modest_started (suc j) first_rows) (λ j. modest_down j _) members k)
 
--- the same by standings
-pub losts_live : {B : Type 0} (same : B → B → Bool) (members : ℕ) (events : List (Event B)) (n k b : ℕ)
-    → Has (node_at (played same members events).nodes n).pending (Lost k b)
-    → (k ≡ n → ⊥) × (is_live (standing k (log_of (played same members events) n)) b ≡ true)
-losts_live same members events n k b h = (all_modest same members events n).losts k b h
+  module _ (equal : IsEquality same) (seven : members ≤ 7) where
+    abbrev AllLosts : World B → Type 0
+    AllLosts w = (k : ℕ) → LostsOk k (node_at w.nodes k)
 
-pub pending_losts_are_live : {B : Type 0} (same : B → B → Bool) → PendingLostsAreLive B same
-pending_losts_are_live same members events n k b h =
-    let l = (all_modest same members events n).losts k b h in
+    next_losts : (early : List (Event B)) (e : Event B) → AllLosts (played same members early)
+        → AllLosts (next same members (played same members early) e)
+    next_losts early e ok = by_next same members (λ z. AllLosts z) w e ok go
+      where
+        w : World B
+        w = played same members early
+
+        o : Plan B
+        o = outcome_of same members e (node_at w.nodes (owner e))
+
+        go : May same members w e → AllLosts (done same w e (node_at w.nodes (owner e)) o)
+        go m k =
+            ⊎_elim
+            (λ (i : k ≡ owner e). subst (λ j. LostsOk j (node_at (put_node w.nodes (owner e) o.node) j)) (sym i)
+            (subst (λ x. LostsOk (owner e) x) (sym (node_same w.nodes (owner e) o.node (within w.nodes e (owner e) m.1)))
+            (event_losts e (node_at w.nodes (owner e)) m.1
+            (λ s up may j. cut_stands same equal members seven early (owner e) s up may j) (ok (owner e)))))
+            (λ i. subst (λ x. LostsOk k x) (sym (node_other w.nodes (owner e) o.node k i)) (ok k))
+            (cases_eq k (owner e))
+
+    play_losts : (todo early : List (Event B)) → AllLosts (played same members early) → AllLosts (played same members (early ++ todo))
+    play_losts [] early h = subst (λ l. AllLosts (played same members l)) (sym (append-nil early)) h
+    play_losts (e ∷ todo) early h =
+        subst (λ l. AllLosts (played same members l)) (append_assoc early (e ∷ []) todo)
+        (play_losts todo (early ++ e ∷ [])
+        (subst (λ (z : World B). AllLosts z) (sym (play_on same members early (e ∷ []) (first_world members))) (next_losts early e h)))
+
+    all_losts : (events : List (Event B)) → AllLosts (played same members events)
+    all_losts events =
+        play_losts events []
+        (λ k. founded_each (λ j x. LostsOk j x) (λ j. losts_started (suc j) first_rows) (λ j. losts_down j (bare_rows last_boot)) members k)
+
+    -- the same by the whole log
+    pub losts_live : (events : List (Event B)) (n k b : ℕ) → Has (node_at (played same members events).nodes n).pending (Lost k b)
+        → (k ≡ n → ⊥) × (is_live (standing k (log_of (played same members events) n)) b ≡ true)
+    losts_live events n k b h =
+        let l = all_losts events n k b h in
+        ⊎_elim
+        (λ u. (l.0, ap (λ s. is_live s b) (sym (stands same equal members seven events n u k)) ∙ l.1))
+        (λ d. absurd (has_nil (subst (λ (x : NodeState B). Has x.pending (Lost k b)) d h)))
+        (all_modest events n).down
+
+pub pending_losts_are_live : {B : Type 0} (same : B → B → Bool) → IsEquality same → PendingLostsAreLive B same
+pending_losts_are_live same equal members seven events n k b h =
+    let l = losts_live same members equal seven events n k b h in
     record {
       other = l.0;
       live = ap (λ o. is_the o b) (live_boot_is k (log_of (played same members events) n))

@@ -84,6 +84,8 @@ module _ {B : Type 0} (same : B → B → Bool) (equal : IsEquality same) (membe
         promised = ok.promised;
         cast = ok.cast;
         role = ok.role;
+        level = ok.level;
+        from_one = ok.from_one;
         learned = ok.learned;
         log = ok.log;
         pending = ok.pending;
@@ -171,7 +173,7 @@ module _ {B : Type 0} (same : B → B → Bool) (equal : IsEquality same) (membe
       outcome_is : outcome_of same members (Deliver (answer s)) x ≡ o
       outcome_is =
           ap (λ z. settle n (on_promise_as same members n s.number ballot (floor_of s) vs z t)) role_is
-          ∙ settle_rest n o ((λ i. run_from (suc (length (heard.0.log i))) (heard.0.learned i)) ∙ rest)
+          ∙ settle_rest n o ((λ i. run_from (suc (floor_in (heard.0.base i) + length (heard.0.log i))) (heard.0.learned i)) ∙ rest)
 
       up_x : x.up ≡ true
       up_x = ap (λ (z : NodeState B). z.up) is_x ∙ knows.bids.up

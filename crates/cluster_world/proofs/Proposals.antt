@@ -146,10 +146,20 @@ pub record Stays {B : Type 0} (taken : ℕ) (t u : Plan B) : Type 0 where
   pub up : u.node.up ≡ t.node.up
   pub log : u.node.applied ≡ t.node.applied
   pub news : u.applied ≡ t.applied
+  pub cut : u.change.snapshot ≡ t.change.snapshot
   pub acts : u.node.taken ≡ taken
 
 pub stays_on : {B : Type 0} {k : ℕ} {t u v : Plan B} → Stays k t u → Stays u.node.taken u v → Stays k t v
-stays_on s r = record { boot = r.boot ∙ s.boot; base = r.base ∙ s.base; up = r.up ∙ s.up; log = r.log ∙ s.log; news = r.news ∙ s.news; acts = r.acts ∙ s.acts }
+stays_on s r =
+    record {
+      boot = r.boot ∙ s.boot;
+      base = r.base ∙ s.base;
+      up = r.up ∙ s.up;
+      log = r.log ∙ s.log;
+      news = r.news ∙ s.news;
+      cut = r.cut ∙ s.cut;
+      acts = r.acts ∙ s.acts;
+    }
 
 -- the same, of plans
 module _ {B : Type 0} (same : B → B → Bool) (equal : IsEquality same) (members : ℕ) (many : 2 ≤ members) (at : ℕ → NodeState B) (n : ℕ)
@@ -213,7 +223,7 @@ module _ {B : Type 0} (same : B → B → Bool) (equal : IsEquality same) (membe
             λ d.
             neither t.disagrees (vote_disagrees same members n (next_vote b next e) t.node.learner) d
             (offer_agrees members many at n same equal t.node (before ++ t.packets) b next table e inv is safe);
-        stays = record { boot = refl; base = refl; up = refl; log = refl; news = refl; acts = refl };
+        stays = record { boot = refl; base = refl; up = refl; log = refl; news = refl; cut = refl; acts = refl };
       }
 
   pub proposed_role : (t : Plan B) (b : Ballot) (next : ℕ) (table : List (Vote B)) (e : Entry B)
@@ -236,7 +246,7 @@ module _ {B : Type 0} (same : B → B → Bool) (equal : IsEquality same) (membe
             record {
               going = kept_none members many at n t.node (before ++ t.packets) inv;
               agrees = λ e. e;
-              stays = record { boot = refl; base = refl; up = refl; log = refl; news = refl; acts = refl };
+              stays = record { boot = refl; base = refl; up = refl; log = refl; news = refl; cut = refl; acts = refl };
             };
         free = free;
       }

@@ -1,15 +1,15 @@
 -- Rounds that a node holds were sent, and what a leader proposed is in slots that follow one another.
-use Rattle.std.proofs.Common.{◌≡◌, ◌⊎◌, inl, inr, ⊎_elim, ℕ, suc, ◌+◌, ◌<◌, ◌≤◌, Bool, true, not, ◌&&◌, refl, sym, ap, ◌∙◌, subst, arith}
+use Rattle.std.proofs.Common.{◌≡◌, ◌⊎◌, inl, inr, ⊎_elim, ℕ, suc, ◌+◌, ◌<◌, ◌≤◌, Bool, true, false, not, ◌&&◌, refl, sym, ap, ◌∙◌, subst, arith}
 use Rattle.cluster_world.proofs.Invariant.{Sent}
 use Rattle.std.proofs.Common.{List, [], ◌∷◌, ◌++◌, length, length-append, Option, Some, None}
-use Rattle.std.specs.Prelude.{max, nat_lt}
-use Rattle.std.proofs.lemmas.Bool.{cond_both, cases_eq, cases_lt, cond-true}
+use Rattle.std.specs.Prelude.{max, nat_lt, nat_le}
+use Rattle.std.proofs.lemmas.Bool.{cond_both, cases_eq, cases_lt, cond-true, ltb-true, lt-ltb}
 use Rattle.cluster_world.proofs.Lists.{has_left, has_right}
 use Rattle.cluster_world.proofs.AcceptorTests.{others_sent}
 use Rattle.cluster_world.proofs.EveryWorld.{within, node_same, node_other, among_has}
 use Rattle.cluster_world.proofs.Taking.{May, by_next}
-use Rattle.cluster_world.proofs.Applied.{in_every}
-use Rattle.cluster_world.proofs.Pending.{founded_each}
+use Rattle.cluster_world.proofs.Taking.{in_every}
+use Rattle.cluster_world.proofs.Taking.{founded_each}
 use Rattle.cluster_world.proofs.Reports.{lowest_has}
 use Rattle.cluster_world.specs.Has.{Has}
 use Rattle.paxos_packets.specs.Ballot.{same_ballot, below}
@@ -29,12 +29,12 @@ use Rattle.paxos_packets.specs.declared.vote.Vote.{Vote}
 use Rattle.paxos_acceptor.specs.Acceptor.{may_promise, may_accept, promise_of, given_by}
 use Rattle.paxos_proposer.specs.declared.promises.CountedPromise.{CountedPromise}
 use Rattle.paxos_proposer.specs.Role.{Role, Idle, Preparing, Leading}
-use Rattle.paxos_proposer.specs.Proposals.{AreUpTo}
-use Rattle.paxos_proposer.specs.Proposer.{round_of, slot_end, next_vote, new_ballot, step_down, nacked, is_leading}
+use Rattle.paxos_proposer.specs.Proposals.{AreUpTo, behind}
+use Rattle.paxos_proposer.specs.Proposer.{round_of, slot_end, next_vote, new_ballot, step_down, nacked, is_leading, raised_above}
 use Rattle.paxos_proposer.specs.Promises.{lowest}
 use Rattle.paxos_proposer.specs.Reports.{is_counted, reports, called_for}
 use Rattle.paxos_node.specs.declared.event.Event.{Event}
-use Rattle.paxos_node.specs.declared.event.Event.TheVariants.{Take, Tick, Start, Suspect, Deliver, Crash, Restart}
+use Rattle.paxos_node.specs.declared.event.Event.TheVariants.{Take, Tick, Start, Suspect, Deliver, Cut, Crash, Restart}
 use Rattle.paxos_planning.specs.Node.{NodeState, Plan, log_length}
 use Rattle.paxos_planning.specs.Plan.{with_role, with_pending, begun, send, promise, cast}
 use Rattle.paxos_planning.specs.Proposals.{offer, propose_as, propose, propose_all, lead, stands, propose_new, propose_each, forwarded, push}
@@ -43,7 +43,11 @@ use Rattle.paxos_planning.specs.Starting.{begin, starts, on_start}
 use Rattle.paxos_planning.specs.Ticking.{again, on_tick}
 use Rattle.paxos_learner.specs.Learner.{run_from}
 use Rattle.paxos_node.specs.Applying.{started, note, ends, go_down, apply_all, settle}
-use Rattle.paxos_node.specs.Events.{takes, with_item, on_take, has_room, suspected, new_lost, owner, outcome_of}
+use Rattle.paxos_node.specs.Events.{takes, with_item, on_take, has_room, suspected, new_lost, owner, deliver, on_event, outcome_of}
+use Rattle.paxos_node.specs.Snapshots.{has_boot, rest_on, take_in, on_cut}
+use Rattle.replica_machine.specs.declared.head.Head.{Head}
+use Rattle.replica_machine.specs.Snapshot.{head_at}
+use Rattle.cluster_world.proofs.Delivering.{IsOther, by_kind}
 use Rattle.cluster_world.specs.World.{World, node_at, put_node, first_world, was_sent, done, next, played}
 use Rattle.cluster_world.specs.Proposers.{WasSentRound, IsRoundOfRole, RoundsWereSent, FollowOneAnother, ProposalsFollow}
 
@@ -65,6 +69,35 @@ one_up slot (w ∷ vs) v h l e =
   where
     more : (a b : ℕ) {c : ℕ} → c ≡ b + 1 → a + suc b ≡ slot → a + suc c ≡ suc slot
     more a b s t = omega arith
+
+-- above a floor they are right below the slot, too, to which it raises the next one
+
+all_above : {B : Type 0} (floor slot : ℕ) (vs : List (Vote B)) → AreUpTo slot vs → floor + suc (length vs) ≤ slot → behind floor vs ≡ vs
+all_above floor slot [] h l = refl
+all_above {B} floor slot (v ∷ vs) h l =
+    cond-true (nat_lt floor v.slot) (v ∷ behind floor vs) (behind floor vs) (lt-ltb floor v.slot (high v.slot (length vs) h.1 l))
+    ∙ ap (λ ws. v ∷ ws) (all_above floor slot vs h.2 (less (length vs) l))
+  where
+    high : (a b : ℕ) → a + suc b ≡ slot → floor + suc (suc b) ≤ slot → floor < a
+    high a b e m = omega arith
+
+    less : (b : ℕ) → floor + suc (suc b) ≤ slot → floor + suc b ≤ slot
+    less b m = omega arith
+
+raised_up : {B : Type 0} (floor slot : ℕ) (vs : List (Vote B)) → AreUpTo slot vs → AreUpTo (max slot (suc floor)) (behind floor vs)
+raised_up floor slot [] h = tt
+raised_up {B} floor slot (v ∷ vs) h =
+    cond_both (nat_lt floor v.slot) (v ∷ behind floor vs) (behind floor vs) (λ ws. AreUpTo (max slot (suc floor)) ws)
+    (λ t. let l = ltb-true floor v.slot t in
+    subst (λ (z : ℕ × List (Vote B)). AreUpTo z.0 (v ∷ z.1))
+    (λ i. (sym (greater v.slot (length vs) h.1 l) i, sym (all_above floor slot vs h.2 (room v.slot (length vs) h.1 l)) i)) h)
+    (λ t. raised_up floor slot vs h.2)
+  where
+    greater : (a b : ℕ) → a + suc b ≡ slot → floor < a → max slot (suc floor) ≡ slot
+    greater a b e l = omega arith
+
+    room : (a b : ℕ) → a + suc b ≡ slot → floor < a → floor + suc b ≤ slot
+    room a b e l = omega arith
 
 module _ {B : Type 0} (R : ℕ → Type 0) where
   -- a proposer that holds such rounds alone, and whose proposals follow one another
@@ -92,6 +125,24 @@ module _ {B : Type 0} (R : ℕ → Type 0) where
       cond_both (same_ballot b c && below c p) Idle (Preparing c floor cs) (λ r. RoleProper r) (λ t. tt) (λ t. h)
   nacked_role b p (Leading c slot table) h =
       cond_both (same_ballot b c && below c p) Idle (Leading c slot table) (λ r. RoleProper r) (λ t. tt) (λ t. h)
+
+  raised_role : (floor : ℕ) (r : Role B) → RoleProper r → RoleProper (raised_above floor r)
+  raised_role floor Idle h = tt
+  raised_role floor (Preparing c first cs) h = h
+  raised_role floor (Leading c slot table) h = (h.0, (let l = h.1 in omega arith), raised_up floor slot table h.2)
+
+  rests : (over : Bool) (s : taken.Snapshot) (t : Plan B) → Ok t → Ok (rest_on over s t)
+  rests false s t ok = record { seen = ok.seen; promised = ok.promised; role = raised_role s.floor t.node.proposer.role ok.role }
+  rests true s t ok = record { seen = ok.seen; promised = ok.promised; role = raised_role s.floor t.node.proposer.role ok.role }
+
+  takes_in : (n : ℕ) (s : taken.Snapshot) (o : Option Head) (t : Plan B) → Ok t → Ok (take_in n s o t)
+  takes_in n s None t ok = record { seen = ok.seen; promised = ok.promised; role = ok.role }
+  takes_in n s (Some head) t ok =
+      cond_both (has_boot n t.node head) t (rest_on true s t) (λ u. Ok u) (λ d. ok) (λ d. rests true s t ok)
+
+  cuts : (o : Option taken.Snapshot) (t : Plan B) → Ok t → Ok (on_cut o t)
+  cuts None t ok = ok
+  cuts (Some s) t ok = rests false s t ok
 
   module _ (same : B → B → Bool) (members n : ℕ) where
     cast_ok : (v : Vote B) (t : Plan B) → Ok t → R v.ballot.round → Ok (cast same members n v t)
@@ -189,10 +240,20 @@ module _ {B : Type 0} (R : ℕ → Type 0) where
     greatest a b r s = ⊎_elim (λ e. subst R (sym e) r) (λ e. subst R (sym e) s) (max_is a b)
 
     delivers : (from : ℕ) (kind : Kind B) (t : Plan B) → Ok t → R (round_in kind)
-        → Ok (on_packet same members n from kind (record t { node = saw kind t.node }))
+        → Ok (deliver same members n from kind (record t { node = saw kind t.node }))
     delivers from kind t ok r =
-        hears_packet from kind (record t { node = saw kind t.node })
-        (record { seen = greatest t.node.proposer.seen (round_in kind) ok.seen r; promised = ok.promised; role = ok.role }) r
+        ⊎_elim
+        (λ (z : (s : taken.Snapshot) × (kind ≡ Snapshot s)). subst (λ k. Ok (deliver same members n from k u)) (sym z.1)
+        (cond_both (nat_le z.0.floor (log_length u.node)) u (take_in n z.0 (head_at z.0.octets) u) (λ y. Ok y) (λ d. seen)
+        (λ d. takes_in n z.0 (head_at z.0.octets) u seen)))
+        (λ (z : IsOther same members n from kind). subst (λ y. Ok y) (sym (z u)) (hears_packet from kind u seen r))
+        (by_kind same members n from kind)
+      where
+        u : Plan B
+        u = record t { node = saw kind t.node }
+
+        seen : Ok u
+        seen = record { seen = greatest t.node.proposer.seen (round_in kind) ok.seen r; promised = ok.promised; role = ok.role }
 
     begins : (t : Plan B) → Ok t → (starts n t.node ≡ true → R (new_ballot n t.node.rows.promised t.node.proposer).round) → Ok (on_start members n t)
     begins t ok r =
@@ -220,7 +281,7 @@ module _ {B : Type 0} (R : ℕ → Type 0) where
 
     ticks : (t : Plan B) → Ok t → Ok (on_tick same members n t)
     ticks t ok =
-        let s = pushes (send (again members n t.node.proposer.role t.node.learner.learned) t)
+        let s = pushes (send (again members n t.node.proposer.role t.node.learner) t)
         (record { seen = ok.seen; promised = ok.promised; role = ok.role }) in
         record { seen = s.seen; promised = s.promised; role = s.role }
 
@@ -245,11 +306,17 @@ module _ {B : Type 0} (R : ℕ → Type 0) where
 
   pub outcome_proper : (same : B → B → Bool) (members : ℕ) → R 0 → (e : Event B) (x : NodeState B) → Proper x → Brings e x
       → Proper (outcome_of same members e x).node
-  outcome_proper same members r (Take n t body) x ok h = settles n r _ (takes_act same members n t body (begun x) ok)
-  outcome_proper same members r (Tick n) x ok h = settles n r _ (ticks same members n (begun x) ok)
-  outcome_proper same members r (Start n) x ok h = settles n r _ (begins same members n (begun x) ok h)
-  outcome_proper same members r (Suspect n other) x ok h = settles n r _ (suspects same members n (new_lost same n other x) (begun x) ok)
-  outcome_proper same members r (Deliver p) x ok h = settles p.addressee r _ (delivers same members p.addressee p.sender p.kind (begun x) ok h)
+  outcome_proper same members r (Take n t body) x ok h =
+      settles n r (on_event same members (Take n t body) (begun x)) (takes_act same members n t body (begun x) ok)
+  outcome_proper same members r (Tick n) x ok h =
+      settles n r (on_event same members (Tick n) (begun x)) (ticks same members n (begun x) ok)
+  outcome_proper same members r (Start n) x ok h =
+      settles n r (on_event same members (Start n) (begun x)) (begins same members n (begun x) ok h)
+  outcome_proper same members r (Suspect n other) x ok h =
+      settles n r (on_event same members (Suspect n other) (begun x)) (suspects same members n (new_lost same n other x) (begun x) ok)
+  outcome_proper same members r (Deliver p) x ok h =
+      settles p.addressee r (on_event same members (Deliver p) (begun x)) (delivers same members p.addressee p.sender p.kind (begun x) ok h)
+  outcome_proper same members r (Cut n o) x ok h = settles n r (on_event same members (Cut n o) (begun x)) (cuts o (begun x) ok)
   outcome_proper same members r (Crash n) x ok h = record { seen = r; promised = ok.promised; role = tt }
   outcome_proper same members r (Restart n) x ok h = starts_proper n (raised x.rows) ok.promised
 

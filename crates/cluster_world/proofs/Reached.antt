@@ -1,28 +1,30 @@
 -- What holds of each node of a world that events lead to, as the passes of a rescue ask for it.
-use Rattle.std.proofs.Common.{◌≡◌, ⊎_elim, ℕ, zero, suc, ◌<◌, ◌≤◌, Bool, true, false, refl, sym, subst, arith, List, [], ◌∷◌, length, Some}
+use Rattle.std.proofs.Common.{◌≡◌, ⊎_elim, ℕ, zero, suc, ◌<◌, ◌≤◌, Bool, true, false, refl, sym, subst, arith, List, [], ◌∷◌, length, Option, Some, None}
 use Rattle.std.specs.Prelude.{slice_get}
-use Rattle.std.proofs.lemmas.Bool.{cond_both, cases_eq, cases_lt, or_left, lt-ltb}
+use Rattle.std.proofs.lemmas.Bool.{cond_both, cond-true, cases_Bool, cases_eq, cases_lt, or_left, lt-ltb}
 use Rattle.cluster_world.proofs.Agreeing.{log_is_chosen}
-use Rattle.cluster_world.proofs.Applied.{in_every}
+use Rattle.cluster_world.proofs.Taking.{in_every}
 use Rattle.cluster_world.proofs.Casting.{HeardOwn, AreEights, eights_more}
 use Rattle.cluster_world.proofs.EveryWorld.{within, node_same, node_other}
 use Rattle.cluster_world.proofs.Fates.{count_heard}
 use Rattle.cluster_world.proofs.Holding.{majorities_hold, new_ballots_are_fresh}
 use Rattle.cluster_world.proofs.Learning.{all_keep}
-use Rattle.cluster_world.proofs.Lists.{has_nil}
-use Rattle.cluster_world.proofs.Pending.{founded_each}
+use Rattle.cluster_world.proofs.Lists.{has_nil, has_filter}
+use Rattle.cluster_world.proofs.Taking.{founded_each}
 use Rattle.cluster_world.proofs.Taking.{by_next, nodes_length}
 use Rattle.cluster_world.specs.Has.{Has}
 use Rattle.paxos_node.proofs.Seeing.{stays_seen}
 use Rattle.paxos_packets.specs.Ballot.{below}
 use Rattle.paxos_packets.specs.Body.{IsEquality}
 use Rattle.paxos_packets.specs.Members.{IsMember, IsMajority}
+use Rattle.paxos_packets.specs.Snapshot as taken
+use Rattle.paxos_packets.specs.Snapshot.{floor_in}
 use Rattle.paxos_packets.specs.declared.ballot.Ballot.{Ballot}
 use Rattle.paxos_packets.specs.declared.entry.Entry.{Entry}
 use Rattle.paxos_packets.specs.declared.vote.Vote.{Vote}
 use Rattle.paxos_acceptor.specs.Acceptor.{may_promise}
-use Rattle.paxos_learner.specs.Learned.{is_learned}
-use Rattle.paxos_learner.specs.Learner.{LearnerState, put_learned}
+use Rattle.paxos_learner.specs.Learned.{is_closed}
+use Rattle.paxos_learner.specs.Learner.{LearnerState, hears, is_known, learn_chosen, put_learned}
 use Rattle.paxos_proposer.specs.Proposer.{round_of}
 use Rattle.paxos_node.specs.Laws.{SeesItsBallots}
 use Rattle.paxos_node.specs.Events.{owner, outcome_of}
@@ -60,14 +62,14 @@ module _ {B : Type 0} (same : B → B → Bool) (members : ℕ) (events : List (
   -- each tally has room for all numbers of nodes
   pub all_eights : (k : ℕ) → AreEights (node_at w.nodes k).learner.heard
   all_eights k =
-      all_keep same members (λ (l : LearnerState B). AreEights l.heard) (record { each = λ t h. absurd (has_nil h) })
-      (λ j v l ok. subst (λ hs. AreEights hs) (sym (count_heard members j v l)) (eights_more j v l ok))
-      (λ slot e l ok. cond_both (is_learned slot l.learned) l (record {
-        heard = l.heard;
-        learned = put_learned
-            (record { slot = slot; entry = e }) l.learned;
-      })
+      all_keep same members (λ floor (l : LearnerState B). AreEights l.heard) (λ floor. record { each = λ t h. absurd (has_nil h) })
+      (λ f j v l ok. ⊎_elim
+      (λ c. subst (λ (m : LearnerState B). AreEights m.heard) (sym (cond-true (is_closed l.floor v.slot) l (learn_chosen members v (hears j v l)) c)) ok)
+      (λ c. subst (λ hs. AreEights hs) (sym (count_heard members j v l c)) (eights_more j v l ok))
+      (cases_Bool (is_closed l.floor v.slot)))
+      (λ f slot e l ok. cond_both (is_known slot l) l (record l { learned = put_learned (record { slot = slot; entry = e }) l.learned })
       (λ (m : LearnerState B). AreEights m.heard) (λ t. ok) (λ t. ok))
+      (λ f floor l ok. record { each = λ t h. ok.each t (has_filter _ l.heard h) })
       events k
 
   -- a node that is up saw what it promised
@@ -104,15 +106,18 @@ module _ {B : Type 0} (same : B → B → Bool) (members : ℕ) (events : List (
 
     -- a log is no longer than the slots in which a majority voted
     pub log_low : (most : ℕ) (crew : ℕ → Bool) → IsMajority members crew
-        → ((k : ℕ) (v : Vote B) → crew k ≡ true → Has (node_at w.nodes k).rows.votes v → v.slot ≤ most) → (n : ℕ) → length
-        (log_of w n) ≤ most
-    log_low most crew enough low n = ⊎_elim (λ (l : most < length (log_of w n)). absurd (go l)) (λ l. l)
+        → ((k : ℕ) (v : Vote B) → crew k ≡ true → Has (node_at w.nodes k).rows.votes v → v.slot ≤ most)
+        → ((k : ℕ) → crew k ≡ true → (node_at w.nodes k).rows.snapshot ≡ None) → (n : ℕ) → length (log_of w n) ≤ most
+    log_low most crew enough low flat n = ⊎_elim (λ (l : most < length (log_of w n)). absurd (go l)) (λ l. l)
         (cases_lt most (length (log_of w n)))
       where
         some_at : (xs : List (Entry B)) (i : ℕ) → i < length xs → (x : Entry B) × (slice_get xs i ≡ Some x)
         some_at [] i h = absurd (omega arith)
         some_at (x ∷ xs) zero h = (x, refl)
         some_at (x ∷ xs) (suc i) h = some_at xs i (omega arith)
+
+        above : (a : ℕ) → 0 < suc a
+        above a = omega arith
 
         past : suc most ≤ most → ⊥
         past h = omega arith
@@ -121,5 +126,6 @@ module _ {B : Type 0} (same : B → B → Bool) (members : ℕ) (events : List (
         go l =
             let e = some_at (log_of w n) most l in
             let k = majorities_hold same equal members many events (suc most) e.0
-            (log_is_chosen same equal members many events n most e.0 e.1) crew enough in
+            (log_is_chosen same equal members many events n most e.0 e.1) crew enough
+            (λ k m t. subst (λ (o : Option taken.Snapshot). floor_in o < suc most) (sym (flat k t)) (above most)) in
             past (low k.node (record { slot = suc most; ballot = k.ballot; entry = e.0 }) k.within k.has)

@@ -1,5 +1,5 @@
 -- What readers of a world in code return.
-use Rattle.std.proofs.Common.{◌≡◌, Bool, false, subst, ℕ, zero, suc, ◌+◌, ◌<◌, ◌≤◌, take, append_assoc, refl, sym, ap, ◌∙◌, arith, List, [], ◌∷◌, ◌++◌, length, Some, None}
+use Rattle.std.proofs.Common.{◌≡◌, Bool, false, subst, ℕ, zero, suc, ◌+◌, ◌<◌, ◌≤◌, take, append_assoc, refl, sym, ap, ◌∙◌, arith, List, [], ◌∷◌, ◌++◌, length, Option, Some, None}
 use Rattle.std.specs.Prelude.{slice_get, slice_index_or, Result, Ok, Err, OnOk, OnErr}
 use Rattle.std.proofs.lemmas.List.{get_or_past, length-map, append-nil, take_all}
 use Rattle.std.proofs.lemmas.Option.{slice_get_past, slice_get_read}
@@ -7,6 +7,8 @@ use Rattle.paxos_planning.specs.Node.{NodeState}
 use Rattle.replica_follower.specs.Following.{Followed}
 use Rattle.paxos_node.specs.declared.event.Event.{Event}
 use Rattle.cluster_world.specs.Members.{MemberState, nodes_of, machines_of}
+use Rattle.paxos_packets.specs.Snapshot.{Snapshot}
+use Rattle.cluster_world.specs.MemberSnapshots.{with_octets}
 use Rattle.cluster_world.specs.StandsAt.{Held, HasLog, machine_at, Shows, ShowsAt}
 use Rattle.cluster_world.specs.World.{World, absent, node_at, played}
 use Rattle.cluster_world.proofs.Replacing.{get_map}
@@ -50,11 +52,15 @@ none_down same w es h n x is d =
     ap (λ (y : NodeState _). y.applied)
     (here ∙ down_is_rows same w.members es n (ap (λ (y : NodeState _). y.up) (sym here) ∙ d))
 
--- one event on, or not
-pub leads_on : {E R F : Type 0} (P : List E → Type 0) (r : Result R F) (es : List E) (e : E) → OnOk r (P (es ++ e ∷ [])) → OnErr r (P es)
-    → (x : List E) × P x
-leads_on P (Ok x) es e ok back = (es ++ e ∷ [], ok)
+-- one event on, with its octets, or not
+pub leads_on : {B R F : Type 0} (P : List (Event B) → Type 0) (r : Result R F) (es : List (Event B)) (e : Event B)
+    → OnOk r ((cut : Option Snapshot) × P (es ++ with_octets cut e ∷ [])) → OnErr r (P es) → (x : List (Event B)) × P x
+leads_on P (Ok x) es e ok back = (es ++ with_octets ok.0 e ∷ [], ok.1)
 leads_on P (Err x) es e ok back = (es, back)
+
+-- so many more, and one
+pub shows_more : {A : Type 0} (P : List A → Type 0) (es more : List A) (e : A) → P ((es ++ more) ++ e ∷ []) → (l : List A) × P (es ++ l)
+shows_more P es more e h = (more ++ e ∷ [], subst (λ l. P l) (append_assoc es more (e ∷ [])) h)
 
 -- the events so far, and one more
 

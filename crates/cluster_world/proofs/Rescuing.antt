@@ -10,13 +10,13 @@ use Rattle.cluster_world.proofs.Beginning.{first_still}
 use Rattle.cluster_world.proofs.Beginning.{first_done, plains, own_plain}
 use Rattle.cluster_world.proofs.Booting.{boot_was_had}
 use Rattle.cluster_world.proofs.Chaining.{Chain, all_shape, all_in, chain_owed}
-use Rattle.cluster_world.proofs.EveryWorld.{play_on}
+use Rattle.cluster_world.proofs.EveryWorld.{play_on, whole_is}
 use Rattle.cluster_world.proofs.Filling.{length_map}
 use Rattle.cluster_world.proofs.Going as going
 use Rattle.cluster_world.proofs.Limits.{rounds_fit, first_most, slots_fit, room_for_two}
 use Rattle.cluster_world.proofs.Lists.{has_nil, has_cons, has_right, map_has}
 use Rattle.cluster_world.proofs.Leaving.{ballot_of, kept_of, RodeOn, WentDown, PassDone}
-use Rattle.cluster_world.proofs.Owing.{Owes}
+use Rattle.cluster_world.proofs.Owing.{Owes, MayStand, kept, owed_by}
 use Rattle.cluster_world.proofs.Pending.{losts_live, pending_is_few, taken_are_counted}
 use Rattle.cluster_world.proofs.PendingOwed.{owes_all}
 use Rattle.cluster_world.proofs.Reached.{is_member_up}
@@ -28,8 +28,9 @@ use Rattle.cluster_world.specs.Has.{Has}
 use Rattle.cluster_world.specs.Origins.{Act as OwnAct, acts_of}
 use Rattle.paxos_packets.specs.Body.{IsEquality}
 use Rattle.paxos_packets.specs.Members.{IsMember, is_majority}
+use Rattle.paxos_packets.specs.Snapshot.{floor_in}
 use Rattle.paxos_packets.specs.declared.entry.Entry.{Entry}
-use Rattle.paxos_packets.specs.declared.entry.Entry.TheVariants.{Boot, Item}
+use Rattle.paxos_packets.specs.declared.entry.Entry.TheVariants.{Boot, Item, Lost}
 use Rattle.paxos_packets.specs.declared.vote.Vote.{Vote}
 use Rattle.paxos_proposer.specs.Proposals.{behind}
 use Rattle.paxos_proposer.specs.Proposing.{proposals_of}
@@ -38,10 +39,11 @@ use Rattle.paxos_node.specs.Events.{last_number, most_pending}
 use Rattle.paxos_node.specs.declared.event.Event.{Event}
 use Rattle.paxos_node.specs.declared.event.Event.TheVariants.{Take, Restart}
 use Rattle.paxos_planning.specs.Node.{NodeState, log_length}
-use Rattle.replica_machine.specs.Roll.{is_wanted, is_wanted_by}
+use Rattle.replica_machine.specs.Roll.{is_live, is_wanted, is_wanted_by, standing, standing_from, standings_from}
+use Rattle.replica_machine.specs.declared.roll.Standing.TheVariants.{Unknown}
 use Rattle.paxos_node.proofs.Rolling.{some_longer}
-use Rattle.paxos_node.specs.Applying.{standing_of}
-use Rattle.cluster_world.specs.World.{World, node_at, first_world, next, play, played}
+use Rattle.paxos_node.specs.Applying.{standing_of, stands_at, has_end}
+use Rattle.cluster_world.specs.World.{World, node_at, first_world, next, play, played, under, log_of}
 use Rattle.cluster_world.specs.Rescue.{Apart, IsCrew, EndsWithAct, MayBeRescued, RestartsOnce, Rescues, is_up_at, has_majority_up}
 use Rattle.cluster_world.specs.Rescue.{round_held, last_rescue_round, last_rescue_slot, is_crowded, any_member, rescue_refused}
 use Rattle.cluster_world.specs.declared.fault.RescueFault.{RescueFault}
@@ -102,6 +104,17 @@ module _ {B : Type 0} (same : B → B → Bool) (equal : IsEquality same) (membe
   q_is : q ≡ play same members (first_pass same c act) w
   q_is = play_on same members events (first_pass same c act) (first_world members)
 
+  plain : x.rows.snapshot ≡ None
+  plain = own_plain same equal members three few events n up seats apart are ups room rooms enough act
+
+  -- where a node stands, by its entries alone
+  stands : (k : ℕ) → standing_of x k ≡ standing k x.applied
+  stands k i = standing_from k (stands_at (plain i) k) x.applied
+
+  -- whether it falls
+  falls_is : falls same c act ≡ has_end n x.rows.boot (standing n x.applied) (entries_of vs)
+  falls_is = ap (λ s. has_end n x.rows.boot s (entries_of vs)) (stands n)
+
   -- the act is applied, and each other node that was up is up
   abbrev pub Achieved : World B → Type 0
   Achieved v =
@@ -121,36 +134,52 @@ module _ {B : Type 0} (same : B → B → Bool) (equal : IsEquality same) (membe
     acts = acts_of n x.rows.boot w.made
 
     owes : Owes n acts x
-    owes = owes_all same members equal events n up
+    owes = owes_all same members equal few events n up
+
+    owes_may : MayStand x.rows.boot (standing n x.applied) (length acts)
+    owes_may = subst (λ s. MayStand x.rows.boot s (length acts)) (stands n) owes.may
+
+    owes_is : filter kept x.pending ≡ owed_by n x.rows.boot (standing n x.applied) acts
+    owes_is = owes.is ∙ ap (λ s. owed_by n x.rows.boot s acts) (stands n)
+
+    x_log : log_of w n ≡ x.applied
+    x_log = whole_is w.cuts x up ∙ (λ i. under w.cuts (plain i) ++ x.applied)
+
+    losts : (k b : ℕ) → Has x.pending (Lost k b) → (k ≡ n → ⊥) × (is_live (standing k x.applied) b ≡ true)
+    losts k b h =
+        let l = losts_live same members equal few events n k b h in (l.0, ap (λ l. is_live (standing k l) b) (sym x_log) ∙ l.1)
+
+    z_log : log_of q n ≡ x.applied ++ entries_of vs
+    z_log = whole_is q.cuts z ride.up ∙ (λ i. under q.cuts (d.plain i) ++ z.applied) ∙ ride.log
 
     boots : BootsUpTo n x.rows.boot (entries_of vs)
     boots b h =
         subst (λ a. b ≤ a) d.boot
-        (boot_was_had same members equal after n n b (subst (λ l. Has l (Boot n b)) (sym ride.log) (has_right x.applied h))).2
+        (boot_was_had same members equal after n n b (subst (λ l. Has l (Boot n b)) (sym z_log) (has_right x.applied h))).2
 
     pending_is : z.pending ≡ filter (is_wanted (x.applied ++ entries_of vs)) x.pending
     pending_is =
         ride.pending
-        ∙ wanting.left n x.rows.boot acts x.applied x.pending owes.may owes.is (λ k b h. losts_live same members events n k b h)
+        ∙ wanting.left n x.rows.boot acts x.applied x.pending owes_may owes_is losts
         (entries_of vs) ride.ends
         boots
 
     -- all that was pending is there
     all : (e : Entry B) → Has x.pending e → Has (entries_of vs) e
     all e h =
-        let s = all_shape same equal (log_length x) d.called (ballot_of same equal members both n mem (suc sees) seats)
-        (suc (log_length x)) [] in
-        let r = all_in same equal (log_length x) x.pending (ballot_of same equal members both n mem (suc sees) seats) s.0
+        let s = all_shape same equal (length x.applied) d.called (ballot_of same equal members both n mem (suc sees) seats)
+        (suc (length x.applied)) [] in
+        let r = all_in same equal (length x.applied) x.pending (ballot_of same equal members both n mem (suc sees) seats) s.0
         ([] ++ s.1) e h in
         subst (λ f. Has (entries_of vs) f) r.2
         (map_has (λ (v : Vote B). v.entry)
-        (subst (λ (a : Role B). Has (proposals_of a) r.0) (sym (ap (λ (a : Role B). propose_new same (log_length x) x.pending a) s.2)
+        (subst (λ (a : Role B). Has (proposals_of a) r.0) (sym (ap (λ (a : Role B). propose_new same (length x.applied) x.pending a) s.2)
         ∙ (sym d.made ∙ d.role_is)) r.1))
 
     has_room : length z.pending < most_pending
     has_room =
         subst (λ (l : List (Entry B)). length l < most_pending) (sym pending_is)
-        (wanting.fewer_left n x.rows.boot acts x.applied x.pending owes.may owes.is (λ k b h. losts_live same members events n k b h)
+        (wanting.fewer_left n x.rows.boot acts x.applied x.pending owes_may owes_is losts
         (entries_of vs) ride.ends
         boots all most_pending (some most_pending room_for_two) (pending_is_few same members events n))
       where
@@ -159,10 +188,10 @@ module _ {B : Type 0} (same : B → B → Bool) (equal : IsEquality same) (membe
 
     chain : Chain n z.rows.boot z.taken (standing_of z n) z.pending
     chain =
-        let o = owes_all same members equal after n ride.up in
+        let o = owes_all same members equal few after n ride.up in
         subst (λ a. Chain n z.rows.boot a (standing_of z n) z.pending) (taken_are_counted same members after n ride.up)
         (chain_owed n z.rows.boot (standing_of z n) z.pending (acts_of n z.rows.boot q.made) o.may o.is
-        (λ k b h. (losts_live same members after n k b h).0))
+        (λ k b h. (losts_live same members equal few after n k b h).0))
 
     -- the events that are left, in the terms of the node
     abbrev rest : List (Vote B)
@@ -191,11 +220,18 @@ module _ {B : Type 0} (same : B → B → Bool) (equal : IsEquality same) (membe
 
     length_is : log_length z ≡ length_then same c act
     length_is =
-        ap (λ l. length l) ride.log
-        ∙ (length-append x.applied (entries_of vs) ∙ ap (λ a. log_length x + a) (length_map (λ (v : Vote B). v.entry) vs))
+        (λ i. floor_in (d.plain i) + length (ride.log i))
+        ∙ (ap (λ a. 0 + a)
+        (length-append x.applied (entries_of vs) ∙ ap (λ a. length x.applied + a) (length_map (λ (v : Vote B). v.entry) vs))
+        ∙ (regroup (length x.applied) (length vs) ∙ ap (λ o. (floor_in o + length x.applied) + length vs) (sym plain)))
+      where
+        regroup : (a b : ℕ) → 0 + (a + b) ≡ (0 + a) + b
+        regroup a b = omega arith
 
     kept_then : z.pending ≡ filter (is_wanted_by (standings_then same c act)) x.pending
-    kept_then = pending_is ∙ (λ i. filter (is_wanted_by (sym (some_longer x.applied (entries_of vs)) i)) x.pending)
+    kept_then =
+        pending_is ∙ (λ i. filter (is_wanted_by (sym (some_longer (λ k. Unknown) x.applied (entries_of vs)) i)) x.pending)
+        ∙ (λ i. filter (is_wanted_by (standings_from (standings_from (stands_at (sym plain i)) x.applied) (entries_of vs))) x.pending)
 
     votes_are : rest ≡ second_votes same c act
     votes_are i =
@@ -213,7 +249,7 @@ module _ {B : Type 0} (same : B → B → Bool) (equal : IsEquality same) (membe
             ∙ ap (λ (v : World B). next same members v (Take n act.transport act.body)) q_is)
             ∙ (sym (play_on same members (first_pass same c act) (goes_on same c act) w)
             ∙ ap (λ l. play same members (first_pass same c act ++ l) w)
-            (sym (cond-false (falls same c act) (comes_back same c act) (goes_on same c act) ride.ends)))
+            (sym (cond-false (falls same c act) (comes_back same c act) (goes_on same c act) (falls_is ∙ ride.ends))))
 
   -- ---- it comes back
 
@@ -270,7 +306,7 @@ module _ {B : Type 0} (same : B → B → Bool) (equal : IsEquality same) (membe
             (turn (play same members (first_pass same c act) w)))
             ∙ (sym (play_on same members (first_pass same c act) (comes_back same c act) w)
             ∙ ap (λ l. play same members (first_pass same c act ++ l) w)
-            (sym (cond-true (falls same c act) (comes_back same c act) (goes_on same c act) fell.ends))))
+            (sym (cond-true (falls same c act) (comes_back same c act) (goes_on same c act) (falls_is ∙ fell.ends)))))
 
   pub act_applied : Achieved (play same members (course same c act) w)
   act_applied = ⊎_elim went_on came_back d.fate
@@ -318,15 +354,21 @@ pub has_room_of : {B : Type 0} (x : NodeState B) → x.up ≡ true → is_crowde
 has_room_of {B} x up h =
     record {
       rounds = ltb-false last_rescue_round (round_held x) parts.0;
-      slots = slots x.rows.votes parts.1;
+      slots = slots x.rows.votes later.0;
+      floor = none (floor_in x.rows.snapshot) (ltb-false 0 (floor_in x.rows.snapshot) later.1);
     }
   where
-    parts : (nat_lt last_rescue_round (round_held x) ≡ false) × (list_any (λ (v : Vote B). nat_lt last_rescue_slot v.slot) x.rows.votes
-        ≡ false)
-    parts =
-        or_parts _ _
-        (ap (λ t. t && (nat_lt last_rescue_round (round_held x) || list_any (λ (v : Vote B). nat_lt last_rescue_slot v.slot) x.rows.votes))
-        (sym up) ∙ h)
+    none : (a : ℕ) → a ≤ 0 → a ≡ 0
+    none a l = omega arith
+
+    held : Bool
+    held = list_any (λ (v : Vote B). nat_lt last_rescue_slot v.slot) x.rows.votes || nat_lt 0 (floor_in x.rows.snapshot)
+
+    parts : (nat_lt last_rescue_round (round_held x) ≡ false) × (held ≡ false)
+    parts = or_parts _ _ (ap (λ t. t && (nat_lt last_rescue_round (round_held x) || held)) (sym up) ∙ h)
+
+    later : (list_any (λ (v : Vote B). nat_lt last_rescue_slot v.slot) x.rows.votes ≡ false) × (nat_lt 0 (floor_in x.rows.snapshot) ≡ false)
+    later = or_parts _ _ parts.1
 
     slots : (votes : List (Vote B)) → list_any (λ (v : Vote B). nat_lt last_rescue_slot v.slot) votes ≡ false → (v : Vote B) → Has votes v
         → v.slot ≤ last_rescue_slot

@@ -9,7 +9,7 @@ use Rattle.cluster_world.proofs.Casting.{HeardOwn}
 use Rattle.cluster_world.proofs.Chaining.{Finished, finishes, all_shape}
 use Rattle.cluster_world.proofs.Concluding.{put_all_cases, slots_within}
 use Rattle.cluster_world.proofs.EventsAtOnce.{all_rest}
-use Rattle.cluster_world.proofs.EveryWorld.{play_on}
+use Rattle.cluster_world.proofs.EveryWorld.{play_on, whole_is}
 use Rattle.cluster_world.proofs.Going.{last_effective}
 use Rattle.cluster_world.proofs.Leading.{AreBelow}
 use Rattle.cluster_world.proofs.Limits.{first_most, second_most, slots_fit, room_for_two, first_number}
@@ -28,6 +28,7 @@ use Rattle.paxos_packets.specs.Ballot.{below}
 use Rattle.paxos_packets.specs.Body.{IsEquality}
 use Rattle.paxos_packets.specs.Members.{IsMember, is_majority}
 use Rattle.paxos_packets.specs.Rows.{last_boot, raised}
+use Rattle.paxos_packets.specs.Snapshot.{floor_in}
 use Rattle.paxos_packets.specs.Vote.{votes_from, put_votes}
 use Rattle.paxos_packets.specs.declared.ballot.Ballot.{Ballot}
 use Rattle.paxos_packets.specs.declared.entry.Entry.{Entry}
@@ -48,7 +49,7 @@ use Rattle.paxos_planning.specs.Proposals.{push}
 use Rattle.replica_machine.specs.Effects.{is_effective}
 use Rattle.replica_machine.specs.declared.roll.Standing.TheVariants.{Unknown}
 use Rattle.replica_machine.specs.Roll.{standing_from}
-use Rattle.cluster_world.specs.World.{World, node_at, first_world, next, play, played}
+use Rattle.cluster_world.specs.World.{World, node_at, first_world, next, play, played, under}
 use Rattle.cluster_world.specs.Rescue.{Apart, EndsWithAct, last_rescue_slot}
 use Rattle.world_rescue.specs.Course.{Seat, votes_then, lead, led, pass, entries_of, propose_all, propose_new}
 
@@ -233,7 +234,7 @@ module _ {B : Type 0} (same : B → B → Bool) (equal : IsEquality same) (membe
   first = suc (log_length (node_at u.nodes n))
 
   first_is : first ≡ 1
-  first_is = ap (λ (x : NodeState B). suc (log_length x)) x_is
+  first_is = ap (λ (x : NodeState B). suc (log_length x)) x_is ∙ ap (λ o. suc (floor_in o + 0)) d.plain
 
   seen_is : (node_at u.nodes n).proposer.seen ≡ suc seen
   seen_is = ap (λ (x : NodeState B). x.proposer.seen) x_is ∙ ap (λ p. round_of p) d.promised
@@ -285,6 +286,7 @@ module _ {B : Type 0} (same : B → B → Bool) (equal : IsEquality same) (membe
       slots_fit (λ s h. ap (λ p. may_promise p ballot) (d.helpers s h).promised ∙ ballots)
       (λ s h. (d.helpers s h).votes_are ∙ ap (λ l. put_votes vs l) (had_is s h))
       (ap (λ (x : NodeState B). x.rows.votes) x_is ∙ (d.votes ∙ ap (λ l. put_votes vs l) own_had)) plains own_plain
+      (λ s h. (d.helpers s h).plain) (ap (λ (x : NodeState B). x.rows.snapshot) x_is ∙ d.plain)
       (λ s h. subst (λ c. AreBelow first_most (votes_then c vs s)) (sym first_is) (votes_below s.node.rows.votes (slots s h)))
       (subst (λ c. AreBelow first_most (votes_then c vs own)) (sym first_is) (votes_below own.node.rows.votes own_slots))
       (heard_at n) (all_eights same members taken_events n)
@@ -384,11 +386,23 @@ module _ {B : Type 0} (same : B → B → Bool) (equal : IsEquality same) (membe
           record {
             before = entries_of f.ws;
             item = 1;
-            is = g.log ∙ (entries_is ∙ ap (λ b. entries_of f.ws ++ Item n b 1 transport body ∷ []) (sym d2.boot));
+            is = whole_is (final_of took).cuts (node_at (final_of took).nodes n) g.up
+                ∙ ((λ i. under (final_of took).cuts (d2.plain i) ++ (node_at (final_of took).nodes n).applied) ∙ g.log)
+                ∙ (entries_is ∙ ap (λ b. entries_of f.ws ++ Item n b 1 transport body ∷ []) (sym d2.boot));
             takes_effect = ap (λ b. is_effective (entries_of f.ws) (Item n b 1 transport body)) d2.boot
                 ∙ last_effective n boot 0 transport body (entries_of f.ws) f.stands_is;
           }
 
-  pub leads_back : EndsWithAct (final_of took) n transport body
-      × ((j : ℕ) → (j ≡ n → ⊥) → (node_at q.nodes j).up ≡ true → (node_at (final_of took).nodes j).up ≡ true)
-  leads_back = (came_back, still)
+  -- in the terms of a log that is empty
+  abbrev pub final_at : ℕ → World B
+  final_at a =
+      play same members (pass n seats (behind a (proposals_of (led same members a took.pending ballot (suc a) vs own seats))))
+      (play same members (lead ballot (suc a) vs seats) u)
+
+  pub leads_back : EndsWithAct (final_at 0) n transport body
+      × ((j : ℕ) → (j ≡ n → ⊥) → (node_at q.nodes j).up ≡ true → (node_at (final_at 0).nodes j).up ≡ true)
+  leads_back =
+      subst
+      (λ a. EndsWithAct (final_at a) n transport body
+      × ((j : ℕ) → (j ≡ n → ⊥) → (node_at q.nodes j).up ≡ true → (node_at (final_at a).nodes j).up ≡ true))
+      (ap (λ o. floor_in o + 0) d.plain) (came_back, still)

@@ -4,9 +4,9 @@ use Rattle.std.specs.Prelude.{nat_lt}
 use Rattle.std.specs.List.{list_any}
 use Rattle.std.proofs.lemmas.Bool.{cases_eq, lt-ltb}
 use Rattle.std.proofs.lemmas.Bool.Decides.{nat_tests}
-use Rattle.cluster_world.proofs.Applied.{in_every}
+use Rattle.cluster_world.proofs.Taking.{in_every}
 use Rattle.cluster_world.proofs.EveryWorld.{within, node_same, node_other}
-use Rattle.cluster_world.proofs.Pending.{founded_each}
+use Rattle.cluster_world.proofs.Taking.{founded_each}
 use Rattle.cluster_world.proofs.Taking.{by_next}
 use Rattle.cluster_world.specs.World.{World, node_at, put_node, first_world, next, played}
 use Rattle.paxos_packets.proofs.Ascending.{AllAfter, Ascends}
@@ -19,7 +19,8 @@ use Rattle.paxos_packets.specs.declared.vote.Vote.{Vote}
 use Rattle.paxos_node.proofs.Committing.{commits_its_change}
 use Rattle.paxos_node.specs.Events.{owner, possible, outcome_of}
 use Rattle.paxos_node.specs.declared.event.Event.{Event}
-use Rattle.paxos_node.specs.declared.event.Event.TheVariants.{Take, Tick, Start, Suspect, Deliver, Crash, Restart}
+use Rattle.paxos_node.specs.declared.event.Event.TheVariants.{Take, Tick, Start, Suspect, Deliver, Cut, Crash, Restart}
+use Rattle.paxos_node.specs.Snapshots.{may_cut}
 use Rattle.paxos_planning.specs.Node.{NodeState, Plan}
 use Rattle.paxos_packets.specs.declared.rows.Change.{Change}
 use Rattle.paxos_packets.specs.declared.rows.Rows.{Rows}
@@ -54,6 +55,7 @@ module _ {B : Type 0} (same : B → B → Bool) (members : ℕ) where
   stays (Start n) x h a = commits (Start n) x h h a
   stays (Suspect n other) x h a = commits (Suspect n other) x h h a
   stays (Deliver p) x h a = commits (Deliver p) x h h a
+  stays (Cut n s) x h a = commits (Cut n s) x (first_of x.up (may_cut s x) h) h a
   stays (Crash n) x h a = commits (Crash n) x h h a
   stays (Restart n) x h a = a
 

@@ -1,10 +1,10 @@
 -- Where no refusal stands, what the crew of a rescue holds leaves it room.
-use Rattle.std.proofs.Common.{◌≡◌, ⊎_elim, ℕ, ◌+◌, ◌<◌, ◌≤◌, Bool, true, ◌||◌, max, eqb, sym, ap, ◌∙◌, subst, arith, List, length, Option, None}
+use Rattle.std.proofs.Common.{◌≡◌, ⊎_elim, ℕ, ◌+◌, ◌≤◌, Bool, true, ◌||◌, max, eqb, sym, ap, ◌∙◌, subst, arith, List, ◌++◌, length, None}
 use Rattle.std.specs.List.{list_any}
 use Rattle.std.proofs.lemmas.Bool.{eqb-true, ltb-true, or_cases}
 use Rattle.cluster_world.proofs.Beginning as beginning
 use Rattle.cluster_world.proofs.Beginning.{seat_of_number}
-use Rattle.cluster_world.proofs.EveryWorld.{world_ok}
+use Rattle.cluster_world.proofs.EveryWorld.{world_ok, floor_none, whole_is}
 use Rattle.cluster_world.proofs.Giving.{each_all}
 use Rattle.cluster_world.proofs.Limits.{last_round, last_slot}
 use Rattle.cluster_world.proofs.Pending.{pending_is_few}
@@ -13,14 +13,13 @@ use Rattle.cluster_world.proofs.Rescuing.{unrefused, has_room_of}
 use Rattle.cluster_world.specs.Has.{Has}
 use Rattle.paxos_packets.specs.Body.{IsEquality}
 use Rattle.paxos_packets.specs.Snapshot.{floor_in}
-use Rattle.paxos_packets.specs.Snapshot as taken
 use Rattle.paxos_packets.specs.declared.vote.Vote.{Vote}
 use Rattle.paxos_planning.specs.Node.{NodeState, log_length}
 use Rattle.paxos_proposer.specs.Proposer.{round_of}
 use Rattle.paxos_node.specs.Events.{most_pending}
 use Rattle.paxos_node.specs.declared.event.Event.{Event}
 use Rattle.cluster_world.specs.Rescue.{IsCrew, RescuesHaveRoom, last_rescue_round, last_rescue_slot, rescue_refused}
-use Rattle.cluster_world.specs.World.{World, node_at, played}
+use Rattle.cluster_world.specs.World.{World, node_at, played, under, log_of}
 use Rattle.world_rescue.specs.Course.{Seat, Crew}
 use Rattle.world_rescue.specs.Room.{HoldsUpTo, IsUpTo}
 
@@ -60,22 +59,44 @@ module _ {B : Type 0} (same : B → B → Bool) (equal : IsEquality same) (membe
   abbrev takes_part : ℕ → Bool
   takes_part k = eqb n k || list_any (λ (s : Seat B). eqb s.number k) c.helpers
 
+  -- none of the crew has a snapshot
+  plain_at : (k : ℕ) → (node_at w.nodes k).up ≡ true → (node_at w.nodes k).rows.snapshot ≡ None
+  plain_at k u =
+      let ok = (world_ok same equal members (omega arith) events).cuts in
+      floor_none ok (node_at w.nodes k).rows.snapshot (ok.found.nodes k) (rooms k u).floor
+
   -- no log ends after the last slot in which the crew voted
   log_fits : log_length x ≤ last_rescue_slot
   log_fits =
-      log_low same members events equal three last_rescue_slot takes_part (ltb-true _ _ is.enough)
+      subst (λ a. a ≤ last_rescue_slot) whole
+      (log_low same members events equal three last_rescue_slot takes_part (ltb-true _ _ is.enough)
       (λ k v t h. ⊎_elim
       (λ e. own.slots v (subst (λ j. Has (node_at w.nodes j).rows.votes v) (sym (eqb-true n k e)) h))
       (λ e. let s = seat_of_number c.helpers k e in
       (rooms s.0.number (seat_up s.0 s.1)).slots v (subst (λ j. Has (node_at w.nodes j).rows.votes v) (sym s.2) h))
       (or_cases (eqb n k) (list_any (λ (s : Seat B). eqb s.number k) c.helpers) t))
-      n
+      flats n)
+    where
+      up : x.up ≡ true
+      up = (unrefused members w n free).up
 
-  -- no node has a snapshot
-  no_floor : (k : ℕ) → floor_in (node_at w.nodes k).rows.snapshot ≤ last_rescue_slot
-  no_floor k =
-      subst (λ (s : Option taken.Snapshot). floor_in s ≤ last_rescue_slot) (sym ((world_ok same equal members (omega arith) events).plain k))
-      (least last_rescue_slot)
+      none_under : (a : ℕ) → 0 + a ≡ a
+      none_under a = omega arith
+
+      whole : length (log_of w n) ≡ log_length x
+      whole =
+          ap length (whole_is w.cuts x up ∙ (λ i. under w.cuts (plain_at n up i) ++ x.applied))
+          ∙ (sym (none_under (length x.applied)) ∙ ap (λ o. floor_in o + length x.applied) (sym (plain_at n up)))
+
+      flats : (k : ℕ) → takes_part k ≡ true → (node_at w.nodes k).rows.snapshot ≡ None
+      flats k t =
+          ⊎_elim (λ e. subst (λ j. (node_at w.nodes j).rows.snapshot ≡ None) (eqb-true n k e) (plain_at n up))
+          (λ e. let s = seat_of_number c.helpers k e in
+          subst (λ j. (node_at w.nodes j).rows.snapshot ≡ None) s.2 (plain_at s.0.number (seat_up s.0 s.1)))
+          (or_cases (eqb n k) (list_any (λ (s : Seat B). eqb s.number k) c.helpers) t)
+
+  no_floor : (k : ℕ) → (node_at w.nodes k).up ≡ true → floor_in (node_at w.nodes k).rows.snapshot ≤ last_rescue_slot
+  no_floor k u = subst (λ a. a ≤ last_rescue_slot) (sym (rooms k u).floor) (least last_rescue_slot)
     where
       least : (a : ℕ) → 0 ≤ a
       least a = omega arith
@@ -87,14 +108,14 @@ module _ {B : Type 0} (same : B → B → Bool) (equal : IsEquality same) (membe
     votes =
         each_all (λ (v : Vote B). v.slot ≤ last_rescue_slot) c.own.node.rows.votes
         (subst (λ (a : NodeState B). beginning.HasRoom a) is.own own).slots;
-    floor = subst (λ (a : NodeState B). floor_in a.rows.snapshot ≤ last_rescue_slot) is.own (no_floor n);
+    floor = subst (λ (a : NodeState B). floor_in a.rows.snapshot ≤ last_rescue_slot) is.own (no_floor n (unrefused members w n free).up);
     pending = subst (λ (a : NodeState B). length a.pending ≤ most_pending) is.own (pending_is_few same members events n);
     helpers =
         each_all (λ (s : Seat B). HoldsUpTo last_rescue_round last_rescue_slot s) c.helpers
         (λ s h. record {
           promised = promise_low s.node (seats s h);
           votes = each_all (λ (v : Vote B). v.slot ≤ last_rescue_slot) s.node.rows.votes (seats s h).slots;
-          floor = subst (λ (a : NodeState B). floor_in a.rows.snapshot ≤ last_rescue_slot) (is.are s h) (no_floor s.number);
+          floor = subst (λ (a : NodeState B). floor_in a.rows.snapshot ≤ last_rescue_slot) (is.are s h) (no_floor s.number (seat_up s h));
         });
   }
 

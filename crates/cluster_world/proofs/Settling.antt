@@ -1,14 +1,15 @@
 -- Learned entries are applied: the log stays chosen.
 use Rattle.std.proofs.Common.{◌≡◌, ◌⊎◌, inl, inr, ⊎_elim, ℕ, zero, suc, ◌+◌, ◌≤◌, Bool, true, false, eqb, refl, sym, ap, ◌∙◌, subst, arith}
-use Rattle.std.proofs.Common.{List, [], ◌∷◌, ◌++◌, length, append_assoc, length-append, Some}
+use Rattle.std.proofs.Common.{List, [], ◌∷◌, ◌++◌, length, append_assoc, length-append, Option, Some}
 use Rattle.std.specs.Prelude.{slice_get, if◌then◌else◌, nat_lt}
 use Rattle.std.proofs.lemmas.Bool.{cond_both, eqb-true}
 use Rattle.std.proofs.lemmas.List.{append-nil}
 use Rattle.cluster_world.proofs.Invariant.{IsChosen, NodeOk, promises}
 use Rattle.cluster_world.proofs.Growth.{chosen_grows, role_free_grows}
 use Rattle.cluster_world.proofs.WithNode.{with_node, kept_on, mine_ok}
-use Rattle.cluster_world.proofs.Proposals.{silent, kept_none, Stays, State, Going, FreeAt}
+use Rattle.cluster_world.proofs.Proposals.{silent, kept_none, State, Going, FreeAt}
 use Rattle.cluster_world.proofs.Events.{ToBy}
+use Rattle.cluster_world.proofs.Resting.{rests, rest_is}
 use Rattle.cluster_world.specs.Has.{Has, here, there}
 use Rattle.paxos_packets.specs.declared.entry.Entry.{Entry}
 use Rattle.paxos_packets.specs.declared.packet.Packet.{Packet}
@@ -17,7 +18,9 @@ use Rattle.paxos_learner.specs.Learner.{run_with, run_from}
 use Rattle.paxos_planning.specs.Node.{NodeState, Plan, log_length}
 use Rattle.paxos_packets.specs.Rows.{raised}
 use Rattle.paxos_node.specs.Applying.{down, started, note, ends, go_down, apply_all, settle}
+use Rattle.paxos_node.specs.Snapshots.{rest_on}
 use Rattle.paxos_packets.specs.Body.{IsEquality}
+use Rattle.paxos_packets.specs.Snapshot.{Snapshot, floor_in}
 
 -- each entry of the log is chosen in its slot
 pub record Logged {B : Type 0} (members : ℕ) (sent : List (Packet B)) (log : List (Entry B)) : Type 0 where
@@ -48,6 +51,16 @@ logged_push {B} members sent log e ok c =
           c) (slice_get_push log e i f h);
     }
 
+at_front : {E : Type 0} (xs ys : List E) (i : ℕ) (e : E) → slice_get xs i ≡ Some e → slice_get (xs ++ ys) i ≡ Some e
+at_front [] ys i e h = absurd (cc)
+at_front (x ∷ xs) ys zero e h = h
+at_front (x ∷ xs) ys (suc i) e h = at_front xs ys i e h
+
+-- its first entries alone
+pub logged_front : {B : Type 0} (members : ℕ) (sent : List (Packet B)) (xs ys : List (Entry B)) → Logged members sent (xs ++ ys)
+    → Logged members sent xs
+logged_front members sent xs ys ok = record { at = λ i e h. ok.at i e (at_front xs ys i e h) }
+
 -- the entries are chosen in the slots from this one on
 abbrev pub RunOk : {B : Type 0} → ℕ → List (Packet B) → ℕ → List (Entry B) → Type 0
 RunOk members sent slot [] = Unit {0}
@@ -71,66 +84,122 @@ longer xs x = length-append xs (x ∷ []) ∙ plus_one (length xs)
     plus_one : (k : ℕ) → k + 1 ≡ suc k
     plus_one k = omega arith
 
--- an event from this log and boot: up, with what it applied at the end of the log; or down
-pub record From {B : Type 0} (log : List (Entry B)) (boot acts : ℕ) (o : Plan B) : Type 0 where
+-- above a floor
+pub one_longer : {E : Type 0} (floor : ℕ) (xs : List E) (x : E) → floor + length (xs ++ x ∷ []) ≡ suc (floor + length xs)
+one_longer floor xs x = ap (λ k. floor + k) (longer xs x) ∙ plus_suc floor (length xs)
+  where
+    plus_suc : (a b : ℕ) → a + suc b ≡ suc (a + b)
+    plus_suc a b = omega arith
+
+-- up, with this snapshot, and with what it applied after what it had above it; it has taken this many acts
+pub record UpFrom {B : Type 0} (held : Option Snapshot) (above : List (Entry B)) (count : ℕ) (o : Plan B) : Type 0 where
+  pub up : o.node.up ≡ true
+  pub base : o.node.rows.snapshot ≡ held
+  pub log : o.node.applied ≡ above ++ o.applied
+  pub acts : o.node.taken ≡ count
+
+-- an event in this boot: so, or down
+pub record From {B : Type 0} (held : Option Snapshot) (above : List (Entry B)) (boot count : ℕ) (o : Plan B) : Type 0 where
   pub boot_is : o.node.rows.boot ≡ boot
-  pub case :
-      ((o.node.up ≡ true) × (o.node.applied ≡ log ++ o.applied) × (o.node.taken ≡ acts))
-      ⊎ ((o.node.up ≡ false) × (o.node.applied ≡ []))
+  pub case : UpFrom held above count o ⊎ ((o.node.up ≡ false) × (o.node.applied ≡ []))
 
-abbrev Up : {B : Type 0} → List (Entry B) → ℕ → Plan B → Type 0
-Up log acts o = (o.node.up ≡ true) × (o.node.applied ≡ log ++ o.applied) × (o.node.taken ≡ acts)
-
-applies_from : {B : Type 0} (n : ℕ) (log : List (Entry B)) (boot acts : ℕ) (es : List (Entry B)) (o : Plan B) → o.node.rows.boot ≡ boot
-    → Up log acts o → From log boot acts (apply_all n es o)
-applies_from n log boot acts [] o b c = record { boot_is = b; case = inl c }
-applies_from n log boot acts (e ∷ es) o b c =
-    cond_both (ends n o.node e) (go_down (note e o)) (apply_all n es (note e o)) (λ z. From log boot acts z)
+applies_from : {B : Type 0} (n : ℕ) (held : Option Snapshot) (above : List (Entry B)) (boot count : ℕ) (es : List (Entry B)) (o : Plan B)
+    → o.node.rows.boot ≡ boot → UpFrom held above count o → From held above boot count (apply_all n es o)
+applies_from n held above boot count [] o b c = record { boot_is = b; case = inl c }
+applies_from n held above boot count (e ∷ es) o b c =
+    cond_both (ends n o.node e) (go_down (note e o)) (apply_all n es (note e o)) (λ z. From held above boot count z)
     (λ t. record { boot_is = b; case = inr (refl, refl) })
-    (λ t. applies_from n log boot acts es (note e o) b (c.0, ap (λ l. l ++ e ∷ []) c.1 ∙ append_assoc log o.applied (e ∷ []), c.2))
+    (λ t. applies_from n held above boot count es (note e o) b
+    (record {
+      up = c.up;
+      base = c.base;
+      log = ap (λ l. l ++ e ∷ []) c.log ∙ append_assoc above o.applied (e ∷ []);
+      acts = c.acts;
+    }))
 
+-- of a plan in whose event nothing is applied yet
+pub settles_from : {B : Type 0} (n : ℕ) (u : Plan B) (boot count : ℕ) → u.node.up ≡ true → u.applied ≡ [] → u.node.rows.boot ≡ boot
+    → u.node.taken ≡ count → From u.node.rows.snapshot u.node.applied boot count (settle n u)
+settles_from n u boot count up none boot_is acts =
+    applies_from n u.node.rows.snapshot u.node.applied boot count (run_from (suc (log_length u.node)) u.node.learner.learned) u boot_is
+    (record { up = up; base = refl; log = sym (ap (λ l. u.node.applied ++ l) none ∙ append-nil u.node.applied); acts = acts })
+
+-- what is applied changes nothing of what is committed
+applies_change : {B : Type 0} (n : ℕ) (es : List (Entry B)) (o : Plan B) → (apply_all n es o).change ≡ o.change
+applies_change n [] o = refl
+applies_change n (e ∷ es) o =
+    cond_both (ends n o.node e) (go_down (note e o)) (apply_all n es (note e o)) (λ z. z.change ≡ o.change) (λ t. refl)
+    (λ t. applies_change n es (note e o))
+
+applies_rows : {B : Type 0} (n : ℕ) (es : List (Entry B)) (o : Plan B) → (apply_all n es o).node.rows ≡ o.node.rows
+applies_rows n [] o = refl
+applies_rows n (e ∷ es) o =
+    cond_both (ends n o.node e) (go_down (note e o)) (apply_all n es (note e o)) (λ z. z.node.rows ≡ o.node.rows) (λ t. refl)
+    (λ t. applies_rows n es (note e o))
+
+pub settle_rows : {B : Type 0} (n : ℕ) (o : Plan B) → (settle n o).node.rows ≡ o.node.rows
+settle_rows n o = applies_rows n (run_from (suc (log_length o.node)) o.node.learner.learned) o
+
+pub settle_change : {B : Type 0} (n : ℕ) (o : Plan B) → (settle n o).change ≡ o.change
+settle_change n o = applies_change n (run_from (suc (log_length o.node)) o.node.learner.learned) o
+
+-- `under` is the log up to the node's floor
 module _ {B : Type 0} (same : B → B → Bool) (equal : IsEquality same) (members : ℕ) (many : 2 ≤ members) (at : ℕ → NodeState B) (n : ℕ)
     (before : List (Packet B)) where
-  pub record Good (o : Plan B) : Type 0 where
+  pub record Good (under : List (Entry B)) (o : Plan B) : Type 0 where
     pub inv : State same equal members many at n before o
     pub free : FreeAt same equal members many at n before o
-    pub log : Logged members (before ++ o.packets) o.node.applied
+    pub log : Logged members (before ++ o.packets) (under ++ o.node.applied)
+    pub floor : length under ≡ floor_in o.node.rows.snapshot
 
-  pub record Goes (t u : Plan B) : Type 0 where
+  pub record Goes (under : List (Entry B)) (t u : Plan B) : Type 0 where
     pub going : Going same equal members many at n before t u
     pub free : FreeAt same equal members many at n before u
-    pub log : Logged members (before ++ u.packets) u.node.applied
+    pub log : Logged members (before ++ u.packets) (under ++ u.node.applied)
+    pub floor : length under ≡ floor_in u.node.rows.snapshot
     pub agrees : t.disagrees ≡ false → u.disagrees ≡ false
-    pub base : u.node.rows.snapshot ≡ t.node.rows.snapshot
 
-  pub goes_on : {t u v : Plan B} → Goes t u → Goes u v → Goes t v
-  goes_on g h = record { going = kept_on g.going h.going; free = h.free; log = h.log; agrees = λ e. h.agrees (g.agrees e); base = h.base ∙ g.base }
+  pub goes_on : {early under : List (Entry B)} {t u v : Plan B} → Goes early t u → Goes under u v → Goes under t v
+  goes_on g h =
+      record { going = kept_on g.going h.going; free = h.free; log = h.log; floor = h.floor; agrees = λ e. h.agrees (g.agrees e) }
 
-  pub good_of : {t u : Plan B} → Goes t u → Good u
-  good_of g = record { inv = g.going.inv; free = g.free; log = g.log }
+  pub good_of : {under : List (Entry B)} {t u : Plan B} → Goes under t u → Good under u
+  good_of g = record { inv = g.going.inv; free = g.free; log = g.log; floor = g.floor }
 
-  keep : (o : Plan B) → Good o → Goes o o
+  keep : {under : List (Entry B)} (o : Plan B) → Good under o → Goes under o o
   keep o ok =
-      record { going = kept_none members many at n o.node (before ++ o.packets) ok.inv; free = ok.free; log = ok.log; agrees = λ e. e; base = refl }
+      record {
+        going = kept_none members many at n o.node (before ++ o.packets) ok.inv;
+        free = ok.free;
+        log = ok.log;
+        floor = ok.floor;
+        agrees = λ e. e;
+      }
 
-  mine : (o : Plan B) → Good o → NodeOk members (promises (with_node at n o.node)) (before ++ o.packets) n o.node
+  mine : {under : List (Entry B)} (o : Plan B) → Good under o → NodeOk members (promises (with_node at n o.node)) (before ++ o.packets) n o.node
   mine o ok = mine_ok members at n o.node (before ++ o.packets) ok.inv
 
-  pub down_goes : (o : Plan B) → Good o → Goes o (go_down o)
-  down_goes o ok =
+  -- nothing above the floor
+  bare_log : (under : List (Entry B)) (o : Plan B) → Good under o → Logged members (before ++ o.packets) (under ++ [])
+  bare_log under o ok =
+      subst (λ l. Logged members (before ++ o.packets) l) (sym (append-nil under))
+      (logged_front members (before ++ o.packets) under o.node.applied ok.log)
+
+  pub down_goes : (under : List (Entry B)) (o : Plan B) → Good under o → Goes under o (go_down o)
+  down_goes under o ok =
       let m = mine o ok in
       record {
         going =
             silent members many at n o.node (down o.node.rows) (before ++ o.packets) ok.inv refl
             (record { rows = m.rows; role = tt; heard = λ t i k q. absurd (elim i [ ]); learned = λ f i. absurd (elim i [ ]) });
         free = tt;
-        log = logged_nil members (before ++ o.packets);
+        log = bare_log under o ok;
+        floor = ok.floor;
         agrees = λ e. e;
-        base = refl;
       }
 
-  pub start_goes : (o : Plan B) → Good o → Goes o (record o { node = started n (raised o.node.rows) })
-  start_goes o ok =
+  pub start_goes : (under : List (Entry B)) (o : Plan B) → Good under o → Goes under o (record o { node = started n (raised o.node.rows) })
+  start_goes under o ok =
       let m = mine o ok in
       record {
         going = silent members many at n o.node (started n (raised o.node.rows)) (before ++ o.packets) ok.inv refl
@@ -141,14 +210,18 @@ module _ {B : Type 0} (same : B → B → Bool) (equal : IsEquality same) (membe
               learned = λ f i. absurd (elim i [ ]);
             });
         free = tt;
-        log = logged_nil members (before ++ o.packets);
+        log = bare_log under o ok;
+        floor = ok.floor;
         agrees = λ e. e;
-        base = refl;
       }
 
-  note_goes : (e : Entry B) (o : Plan B) → Good o → IsChosen members (before ++ o.packets) (suc (log_length o.node)) e
-      → Goes o (note e o)
-  note_goes e o ok c =
+  -- the log in full
+  full_length : {under : List (Entry B)} (o : Plan B) → Good under o → length (under ++ o.node.applied) ≡ log_length o.node
+  full_length {under} o ok = length-append under o.node.applied ∙ ap (λ k. k + length o.node.applied) ok.floor
+
+  note_goes : {under : List (Entry B)} (e : Entry B) (o : Plan B) → Good under o → IsChosen members (before ++ o.packets) (suc (log_length o.node)) e
+      → Goes under o (note e o)
+  note_goes {under} e o ok c =
       let m = mine o ok in
       let g : Going same equal members many at n before o (note e o) =
       silent members many at n o.node (note e o).node (before ++ o.packets) ok.inv refl
@@ -156,72 +229,89 @@ module _ {B : Type 0} (same : B → B → Bool) (equal : IsEquality same) (membe
       record {
         going = g;
         free = role_free_grows members g.grows o.node.proposer.role ok.free;
-        log = logged_push members (before ++ o.packets) o.node.applied e ok.log c;
+        log =
+            subst (λ l. Logged members (before ++ o.packets) l) (append_assoc under o.node.applied (e ∷ []))
+            (logged_push members (before ++ o.packets) (under ++ o.node.applied) e ok.log
+            (subst (λ k. IsChosen members (before ++ o.packets) (suc k) e) (sym (full_length o ok)) c));
+        floor = ok.floor;
         agrees = λ d. d;
-        base = refl;
       }
 
-  apply_goes : (es : List (Entry B)) (o : Plan B) → Good o → RunOk members (before ++ o.packets) (suc (log_length o.node)) es
-      → Goes o (apply_all n es o)
+  apply_goes : {under : List (Entry B)} (es : List (Entry B)) (o : Plan B) → Good under o
+      → RunOk members (before ++ o.packets) (suc (log_length o.node)) es → Goes under o (apply_all n es o)
   apply_goes [] o ok r = keep o ok
-  apply_goes (e ∷ es) o ok r =
+  apply_goes {under} (e ∷ es) o ok r =
       let a = note_goes e o ok r.0 in
-      cond_both (ends n o.node e) (go_down (note e o)) (apply_all n es (note e o)) (λ z. Goes o z)
-      (λ t. goes_on a (down_goes (note e o) (good_of a)))
+      cond_both (ends n o.node e) (go_down (note e o)) (apply_all n es (note e o)) (λ z. Goes under o z)
+      (λ t. goes_on a (down_goes under (note e o) (good_of a)))
       (λ t. goes_on a (apply_goes es (note e o) (good_of a)
-      (subst (λ k. RunOk members (before ++ o.packets) (suc k) es) (sym (longer o.node.applied e)) r.1)))
+      (subst (λ k. RunOk members (before ++ o.packets) (suc k) es) (sym (one_longer (floor_in o.node.rows.snapshot) o.node.applied e)) r.1)))
 
-  settle_goes : (o : Plan B) → Good o → Goes o (settle n o)
+  settle_goes : {under : List (Entry B)} (o : Plan B) → Good under o → Goes under o (settle n o)
   settle_goes o ok =
       apply_goes (run_from (suc (log_length o.node)) o.node.learner.learned) o ok
       (run_ok members (before ++ o.packets) o.node.learner.learned (suc (log_length o.node)) (mine o ok).learned)
 
   -- a step
-  arrives : {k : ℕ} (t u : Plan B) → Good t → ToBy same equal members many at n before k t u → Goes t u
-  arrives t u ok s =
+  pub arrives : {under : List (Entry B)} {k : ℕ} (t u : Plan B) → Good under t → ToBy same equal members many at n before k t u → Goes under t u
+  arrives {under} t u ok s =
       record {
         going = s.path.going;
         free = s.free;
         log =
-            subst (λ l. Logged members (before ++ u.packets) l) (sym s.path.stays.log)
+            subst (λ l. Logged members (before ++ u.packets) (under ++ l)) (sym s.path.stays.log)
             (record { at = λ i e h. chosen_grows s.path.going.grows (ok.log.at i e h) });
+        floor = ok.floor ∙ sym (ap floor_in s.path.stays.base);
         agrees = s.path.agrees;
-        base = s.path.stays.base;
+      }
+
+  -- it rests on a snapshot that was made from this log
+  pub rest_goes : {early : List (Entry B)} (under : List (Entry B)) (over : Bool) (s : Snapshot) (t : Plan B) → Good early t
+      → floor_in t.node.rows.snapshot ≤ s.floor → length under ≡ s.floor → Logged members (before ++ t.packets) under
+      → Goes under t (rest_on over s t)
+  rest_goes under over s t ok rises long logged =
+      let r = rests same equal members many at n before over s t rises ok.inv ok.free in
+      let i = rest_is over s t in
+      record {
+        going = r.going;
+        free = r.free;
+        log = subst (λ l. Logged members (before ++ t.packets) l) (sym (ap (λ l. under ++ l) i.log ∙ append-nil under)) logged;
+        floor = long ∙ sym (ap floor_in i.base);
+        agrees = λ e. e;
       }
 
   -- and what it taught is applied
-  pub step_goes : {k : ℕ} (t u : Plan B) → Good t → ToBy same equal members many at n before k t u → Goes t (settle n u)
-  step_goes t u ok s = let a = arrives t u ok s in goes_on a (settle_goes u (good_of a))
+  pub settled_goes : {under : List (Entry B)} (t u : Plan B) → Goes under t u → Goes under t (settle n u)
+  settled_goes t u g = goes_on g (settle_goes u (good_of g))
 
   -- what was applied is chosen, in a node that it took down too
-  apply_logged : (log es : List (Entry B)) (o : Plan B) → o.node.applied ≡ log ++ o.applied
-      → Logged members (before ++ o.packets) o.node.applied → RunOk members (before ++ o.packets) (suc (log_length o.node)) es
+  apply_logged : (under log es : List (Entry B)) (o : Plan B) → under ++ o.node.applied ≡ log ++ o.applied
+      → length under ≡ floor_in o.node.rows.snapshot
+      → Logged members (before ++ o.packets) (under ++ o.node.applied) → RunOk members (before ++ o.packets) (suc (log_length o.node)) es
       → Logged members (before ++ (apply_all n es o).packets) (log ++ (apply_all n es o).applied)
-  apply_logged log [] o is ok r = subst (λ l. Logged members (before ++ o.packets) l) is ok
-  apply_logged log (e ∷ es) o is ok r =
+  apply_logged under log [] o is long ok r = subst (λ l. Logged members (before ++ o.packets) l) is ok
+  apply_logged under log (e ∷ es) o is long ok r =
       cond_both (ends n o.node e) (go_down (note e o)) (apply_all n es (note e o))
       (λ z. Logged members (before ++ z.packets) (log ++ z.applied))
       (λ t. subst (λ l. Logged members (before ++ o.packets) l) more all)
-      (λ t. apply_logged log es (note e o) more all
-      (subst (λ k. RunOk members (before ++ o.packets) (suc k) es) (sym (longer o.node.applied e)) r.1))
+      (λ t. apply_logged under log es (note e o) more long all
+      (subst (λ k. RunOk members (before ++ o.packets) (suc k) es) (sym (one_longer (floor_in o.node.rows.snapshot) o.node.applied e)) r.1))
     where
-      all : Logged members (before ++ o.packets) (o.node.applied ++ e ∷ [])
-      all = logged_push members (before ++ o.packets) o.node.applied e ok r.0
+      long_log : length (under ++ o.node.applied) ≡ log_length o.node
+      long_log = length-append under o.node.applied ∙ ap (λ k. k + length o.node.applied) long
 
-      more : o.node.applied ++ e ∷ [] ≡ log ++ (o.applied ++ e ∷ [])
-      more = ap (λ l. l ++ e ∷ []) is ∙ append_assoc log o.applied (e ∷ [])
+      all : Logged members (before ++ o.packets) (under ++ (o.node.applied ++ e ∷ []))
+      all =
+          subst (λ l. Logged members (before ++ o.packets) l) (append_assoc under o.node.applied (e ∷ []))
+          (logged_push members (before ++ o.packets) (under ++ o.node.applied) e ok
+          (subst (λ k. IsChosen members (before ++ o.packets) (suc k) e) (sym long_log) r.0))
 
-  pub step_logged : {k : ℕ} (t u : Plan B) → Good t → t.applied ≡ [] → ToBy same equal members many at n before k t u
-      → Logged members (before ++ (settle n u).packets) (t.node.applied ++ (settle n u).applied)
-  step_logged t u ok none s =
-      let a = arrives t u ok s in
-      apply_logged t.node.applied (run_from (suc (log_length u.node)) u.node.learner.learned) u
-      (s.path.stays.log ∙ sym (ap (λ l. t.node.applied ++ l) (s.path.stays.news ∙ none) ∙ append-nil t.node.applied)) a.log
-      (run_ok members (before ++ u.packets) u.node.learner.learned (suc (log_length u.node)) (mine u (good_of a)).learned)
+      more : under ++ (o.node.applied ++ e ∷ []) ≡ log ++ (o.applied ++ e ∷ [])
+      more =
+          sym (append_assoc under o.node.applied (e ∷ [])) ∙ ap (λ l. l ++ e ∷ []) is ∙ append_assoc log o.applied (e ∷ [])
 
--- from the log and boot of the node whose event it was
-pub step_from : {B : Type 0} (n : ℕ) {k : ℕ} (t u : Plan B) → t.node.up ≡ true → t.applied ≡ [] → Stays k t u
-    → From t.node.applied t.node.rows.boot k (settle n u)
-step_from n {k} t u up none s =
-    applies_from n t.node.applied t.node.rows.boot k (run_from (suc (log_length u.node)) u.node.learner.learned) u s.boot
-    (s.up ∙ up, s.log ∙ sym (ap (λ l. t.node.applied ++ l) (s.news ∙ none) ∙ append-nil t.node.applied), s.acts)
+  pub settled_logged : {under : List (Entry B)} (log : List (Entry B)) (t u : Plan B) → Goes under t u → under ++ u.node.applied ≡ log ++ u.applied
+      → Logged members (before ++ (settle n u).packets) (log ++ (settle n u).applied)
+  settled_logged {under} log t u g is =
+      apply_logged under log (run_from (suc (log_length u.node)) u.node.learner.learned) u is g.floor g.log
+      (run_ok members (before ++ u.packets) u.node.learner.learned (suc (log_length u.node)) (mine u (good_of g)).learned)

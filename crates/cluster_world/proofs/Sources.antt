@@ -1,16 +1,18 @@
 -- Every entry of a node and of its packets comes from what it was given: of any property of entries, kept through an event.
 use Rattle.std.proofs.Common.{◌≡◌, ⊎_elim, ℕ, zero, suc, ◌+◌, ◌-◌, Bool, true, false, not, ◌&&◌, eqb, refl, sym, subst, List, [], ◌∷◌, ◌++◌}
 use Rattle.std.proofs.Common.{map, Option, Some, None}
-use Rattle.std.specs.Prelude.{filter, if◌then◌else◌, nat_lt, nat_le, max, take, MatchOption}
+use Rattle.std.specs.Prelude.{filter, if◌then◌else◌, nat_lt, nat_le, max, take}
 use Rattle.std.proofs.lemmas.Bool.{cond_both, cond-true}
 use Rattle.cluster_world.proofs.Lists.{has_cons, has_nil, has_one, has_cases, has_map, has_filter}
 use Rattle.cluster_world.proofs.AcceptorTests.{put_cases, has_from}
 use Rattle.cluster_world.proofs.Reports.{best_has, has_reports}
+use Rattle.cluster_world.proofs.Delivering.{IsOther, by_kind}
 use Rattle.cluster_world.proofs.Learner.{learned_cases}
 use Rattle.paxos_packets.specs.Ballot.{below, same_ballot}
 use Rattle.cluster_world.specs.Has.{Has, here, there}
 use Rattle.paxos_packets.specs.Members.{is_majority, others}
 use Rattle.paxos_packets.specs.Packet.{packet, to_others}
+use Rattle.paxos_packets.specs.Rows.{raised}
 use Rattle.paxos_packets.specs.Snapshot.{floor_in}
 use Rattle.paxos_packets.specs.Snapshot as taken
 use Rattle.paxos_packets.specs.declared.ballot.Ballot.{Ballot}
@@ -24,21 +26,24 @@ use Rattle.paxos_acceptor.specs.Acceptor.{may_promise, may_accept, promise_of, g
 use Rattle.std.specs.Option.{unwrap_or}
 use Rattle.paxos_proposer.specs.declared.promises.CountedPromise.{CountedPromise}
 use Rattle.paxos_proposer.specs.Role.{Role, Idle, Preparing, Leading}
-use Rattle.paxos_proposer.specs.Proposer.{slot_end, new_ballot, step_down, nacked, next_vote, is_leading}
+use Rattle.paxos_proposer.specs.Proposer.{slot_end, new_ballot, step_down, nacked, next_vote, is_leading, raised_above}
 use Rattle.paxos_proposer.specs.Promises.{lowest}
 use Rattle.paxos_proposer.specs.Reports.{is_counted, reports, best, past_reports, entry_or_noop, called_in, called_for}
 use Rattle.paxos_learner.specs.declared.learned.LearnedEntry.{LearnedEntry}
 use Rattle.paxos_learner.specs.Learner.{LearnerState}
-use Rattle.paxos_learner.specs.Learner.{is_learned, put_learned, learn, hears, has_most, count_vote, run_with, run_from}
-use Rattle.replica_machine.specs.Roll.{is_wanted}
+use Rattle.paxos_learner.specs.Learned.{is_closed}
+use Rattle.paxos_learner.specs.Learner.{is_known, put_learned, learn, hears, has_most, learn_chosen, count_vote, run_with, run_from}
 use Rattle.paxos_node.specs.declared.event.Event.{Event}
-use Rattle.paxos_node.specs.declared.event.Event.TheVariants.{Take, Tick, Start, Suspect, Deliver, Crash, Restart}
+use Rattle.paxos_node.specs.declared.event.Event.TheVariants.{Take, Tick, Start, Suspect, Deliver, Cut, Crash, Restart}
 use Rattle.paxos_planning.specs.Node.{NodeState, Plan, log_length}
 use Rattle.paxos_planning.specs.Plan.{with_role, with_pending, begun, voted_at, counted_at, send, promise, cast}
 use Rattle.paxos_planning.specs.Proposals.{offer, propose_as, propose, propose_all, lead, stands, propose_new, propose_each, forwarded, push}
 use Rattle.paxos_planning.specs.Replies.{saw, refuse, show, cast_or_show, on_prepare, on_accept, answer_ask, count_promise, on_promise_as, told_from, on_packet}
-use Rattle.paxos_node.specs.Applying.{note, ends, go_down, apply_all, settle}
-use Rattle.paxos_node.specs.Events.{takes, new_item, with_item, on_take, has_room, new_lost, packet_in}
+use Rattle.replica_machine.specs.declared.head.Head.{Head}
+use Rattle.replica_machine.specs.Snapshot.{head_at}
+use Rattle.paxos_node.specs.Applying.{started, note, ends, go_down, apply_all, settle}
+use Rattle.paxos_node.specs.Snapshots.{has_boot, take_in, rest_on, on_cut, on_snapshot}
+use Rattle.paxos_node.specs.Events.{takes, new_item, with_item, on_take, has_room, new_lost, deliver}
 use Rattle.paxos_planning.specs.Ticking.{accepts_again, again, on_tick}
 use Rattle.paxos_planning.specs.Starting.{begin, starts, on_start}
 use Rattle.paxos_node.specs.Events.{suspected, outcome_of, taken_by, suspected_by, made_by}
@@ -48,7 +53,8 @@ take_has zero xs x h = absurd (has_nil h)
 take_has (suc n) [] x h = absurd (has_nil h)
 take_has (suc n) (y ∷ ys) x h = ⊎_elim (λ e. subst (λ z. Has (y ∷ ys) z) e here) (λ r. there (take_has n ys x r)) (has_cons h)
 
-module _ {B : Type 0} (G : Entry B → Type 0) where
+-- G of entries, and F of snapshots
+module _ {B : Type 0} (G : Entry B → Type 0) (F : taken.Snapshot → Type 0) where
   abbrev pub Each : List (Entry B) → Type 0
   Each es = (e : Entry B) → Has es e → G e
 
@@ -64,7 +70,7 @@ module _ {B : Type 0} (G : Entry B → Type 0) where
   KindGood (Forward es) = (e : Entry B) → Has es e → G e
   KindGood (Ask s) = Unit {0}
   KindGood (Learned s e) = G e
-  KindGood (Snapshot s) = Unit {0}
+  KindGood (Snapshot s) = F s
 
   abbrev pub SentGood : List (Packet B) → Type 0
   SentGood sent = (p : Packet B) → Has sent p → KindGood p.kind
@@ -78,6 +84,7 @@ module _ {B : Type 0} (G : Entry B → Type 0) where
   LearnedGood fs = (f : LearnedEntry B) → Has fs f → G f.entry
 
   pub record NodeGood (x : NodeState B) : Type 0 where
+    pub based : (s : taken.Snapshot) → x.rows.snapshot ≡ Some s → F s
     pub votes : VotesGood x.rows.votes
     pub role : RoleGood x.proposer.role
     pub learned : LearnedGood x.learner.learned
@@ -110,7 +117,7 @@ module _ {B : Type 0} (G : Entry B → Type 0) where
       → PlanGood (record t { node = record t.node { proposer = record { role = r; seen = seen } } })
   role_good r seen t ok g =
       record {
-        node = record { votes = ok.node.votes; role = g; learned = ok.node.learned; applied = ok.node.applied; pending = ok.node.pending };
+        node = record { based = ok.node.based; votes = ok.node.votes; role = g; learned = ok.node.learned; applied = ok.node.applied; pending = ok.node.pending };
         out = ok.out;
       }
 
@@ -118,7 +125,7 @@ module _ {B : Type 0} (G : Entry B → Type 0) where
 
   learn_good : (slot : ℕ) (e : Entry B) (l : LearnerState B) → LearnedGood l.learned → G e → LearnedGood (learn slot e l).learned
   learn_good slot e l ok g =
-      cond_both (is_learned slot l.learned) l (record { heard = l.heard; learned = put_learned (record { slot = slot; entry = e }) l.learned })
+      cond_both (is_known slot l) l (record l { learned = put_learned (record { slot = slot; entry = e }) l.learned })
       (λ (y : LearnerState B). LearnedGood y.learned) (λ t. ok)
       (λ t f h. ⊎_elim (λ s. subst (λ (z : LearnedEntry B). G z.entry) s g) (λ o. ok f o)
       (learned_cases (record { slot = slot; entry = e }) l.learned f h))
@@ -128,9 +135,11 @@ module _ {B : Type 0} (G : Entry B → Type 0) where
 
   count_good : (members k : ℕ) (v : Vote B) (l : LearnerState B) → LearnedGood l.learned → G v.entry → LearnedGood (count_vote members k v l).learned
   count_good members k v l ok g =
-      cond_both (has_most members v (hears k v l)) (learn v.slot v.entry (hears k v l)) (hears k v l) (λ (y : LearnerState B). LearnedGood y.learned)
+      cond_both (is_closed l.floor v.slot) l (learn_chosen members v (hears k v l)) (λ (y : LearnerState B). LearnedGood y.learned) (λ c. ok)
+      (λ c. cond_both (has_most members v (hears k v l)) (learn v.slot v.entry (hears k v l)) (hears k v l)
+      (λ (y : LearnerState B). LearnedGood y.learned)
       (λ t. learn_good v.slot v.entry (hears k v l) (hears_good k v l ok) g)
-      (λ t. hears_good k v l ok)
+      (λ t. hears_good k v l ok))
 
   -- the acceptor
 
@@ -142,6 +151,7 @@ module _ {B : Type 0} (G : Entry B → Type 0) where
   voted_good : (v : Vote B) (x : NodeState B) → NodeGood x → G v.entry → NodeGood (voted_at v x)
   voted_good v x ok g =
       record {
+        based = ok.based;
         votes = λ u h. ⊎_elim (λ s. subst (λ (z : Vote B). G z.entry) s g) (λ o. ok.votes u o) (put_cases v x.rows.votes u h);
         role = down_good v.ballot x.proposer.role ok.role;
         learned = ok.learned;
@@ -151,7 +161,7 @@ module _ {B : Type 0} (G : Entry B → Type 0) where
 
   counted_good : (members k : ℕ) (v : Vote B) (x : NodeState B) → NodeGood x → G v.entry → NodeGood (counted_at members k v x)
   counted_good members k v x ok g =
-      record { votes = ok.votes; role = ok.role; learned = count_good members k v x.learner ok.learned g; applied = ok.applied; pending = ok.pending }
+      record { based = ok.based; votes = ok.votes; role = ok.role; learned = count_good members k v x.learner ok.learned g; applied = ok.applied; pending = ok.pending }
 
   module _ (same : B → B → Bool) (members n : ℕ) where
     cast_good : (v : Vote B) (t : Plan B) → PlanGood t → G v.entry → PlanGood (cast same members n v t)
@@ -173,6 +183,7 @@ module _ {B : Type 0} (G : Entry B → Type 0) where
         (λ e. record {
           node =
               record {
+                based = ok.node.based;
                 votes = ok.node.votes;
                 role = down_good b t.node.proposer.role ok.node.role;
                 learned = ok.node.learned;
@@ -188,19 +199,32 @@ module _ {B : Type 0} (G : Entry B → Type 0) where
         low : ℕ
         low = max first (suc (floor_in t.node.rows.snapshot))
 
-    show_good : (to : ℕ) (s : taken.Snapshot) (t : Plan B) → PlanGood t → PlanGood (show n to s t)
-    show_good to s t ok = send_good (packet n (Snapshot s) to ∷ []) t ok (one_good n to (Snapshot s) tt)
+    show_good : (to : ℕ) (s : taken.Snapshot) (t : Plan B) → PlanGood t → F s → PlanGood (show n to s t)
+    show_good to s t ok f = send_good (packet n (Snapshot s) to ∷ []) t ok (one_good n to (Snapshot s) f)
+
+    -- what gives a slot is the node's snapshot
+    given_good : (o : Option taken.Snapshot) (slot : ℕ) → ((s : taken.Snapshot) → o ≡ Some s → F s) → (s : taken.Snapshot)
+        → given_by o slot ≡ Some s → F s
+    given_good None slot f s e = absurd (never e)
+      where
+        never : ◌≡◌ {A = Option taken.Snapshot} None (Some s) → ⊥
+        never e = cc
+    given_good (Some k) slot f s e =
+        cond_both (nat_le slot k.floor) (Some k) None (λ o. o ≡ Some s → F s) (λ t i. f s i) (λ t i. absurd (never i)) e
+      where
+        never : ◌≡◌ {A = Option taken.Snapshot} None (Some s) → ⊥
+        never e = cc
 
     cast_or_show_good : (from : ℕ) (given : Option taken.Snapshot) (v : Vote B) (t : Plan B) → PlanGood t → G v.entry
-        → PlanGood (cast_or_show same members n from given v t)
-    cast_or_show_good from None v t ok g = cast_good v t ok g
-    cast_or_show_good from (Some s) v t ok g = show_good from s t ok
+        → ((s : taken.Snapshot) → given ≡ Some s → F s) → PlanGood (cast_or_show same members n from given v t)
+    cast_or_show_good from None v t ok g f = cast_good v t ok g
+    cast_or_show_good from (Some s) v t ok g f = show_good from s t ok (f s refl)
 
     accept_good : (from : ℕ) (v : Vote B) (t : Plan B) → PlanGood t → G v.entry → PlanGood (on_accept same members n from v t)
     accept_good from v t ok g =
         cond_both (may_accept t.node.rows.promised v.ballot) (cast_or_show same members n from (given_by t.node.rows.snapshot v.slot) v t)
         (refuse n from v.ballot t) (λ u. PlanGood u)
-        (λ e. cast_or_show_good from (given_by t.node.rows.snapshot v.slot) v t ok g)
+        (λ e. cast_or_show_good from (given_by t.node.rows.snapshot v.slot) v t ok g (given_good t.node.rows.snapshot v.slot ok.node.based))
         (λ e. refuse_good from v.ballot t ok)
 
     -- the proposer
@@ -210,6 +234,7 @@ module _ {B : Type 0} (G : Entry B → Type 0) where
     offer_good b next table e t rg ok g =
         record {
           node = record {
+            based = ok.node.based;
             votes = ok.node.votes;
             role = λ v h. ⊎_elim (λ o. rg v o) (λ s. subst (λ (z : Vote B). G z.entry) (has_one s) g) (has_cases table (next_vote b next e ∷ []) h);
             learned = ok.node.learned;
@@ -265,7 +290,7 @@ module _ {B : Type 0} (G : Entry B → Type 0) where
         → PlanGood (record t { node = record t.node { pending = pending; taken = taken } })
     pending_good pending taken t ok g =
         record {
-          node = record { votes = ok.node.votes; role = ok.node.role; learned = ok.node.learned; applied = ok.node.applied; pending = g };
+          node = record { based = ok.node.based; votes = ok.node.votes; role = ok.node.role; learned = ok.node.learned; applied = ok.node.applied; pending = g };
           out = ok.out;
         }
 
@@ -332,11 +357,12 @@ module _ {B : Type 0} (G : Entry B → Type 0) where
           (has_cases (if nat_le slot f.slot && nat_lt f.slot (slot + 64) then packet n (Learned f.slot f.entry) to ∷ [] else [])
           (told_from n to slot fs) h)
 
-      ask_good : (from slot : ℕ) (given : Option taken.Snapshot) (t : Plan B) → PlanGood t → PlanGood (answer_ask n from slot given t)
-      ask_good from slot None t ok =
+      ask_good : (from slot : ℕ) (given : Option taken.Snapshot) (t : Plan B) → PlanGood t → ((s : taken.Snapshot) → given ≡ Some s → F s)
+          → PlanGood (answer_ask n from slot given t)
+      ask_good from slot None t ok f =
           send_good (told_from n from slot t.node.learner.learned) t ok (told_good from slot t.node.learner.learned ok.node.learned)
-      ask_good from slot (Some s) t ok =
-          send_good (told_from n from (suc s.floor) t.node.learner.learned) (show n from s t) (show_good from s t ok)
+      ask_good from slot (Some s) t ok f =
+          send_good (told_from n from (suc s.floor) t.node.learner.learned) (show n from s t) (show_good from s t ok (f s refl))
           (told_good from (suc s.floor) t.node.learner.learned ok.node.learned)
 
       packet_good : (from : ℕ) (kind : Kind B) (t : Plan B) → PlanGood t → KindGood kind → PlanGood (on_packet same members n from kind t)
@@ -349,12 +375,13 @@ module _ {B : Type 0} (G : Entry B → Type 0) where
       packet_good from (Forward es) t ok g =
           cond_both (is_leading t.node.proposer.role) (propose_each same members n es t) t (λ u. PlanGood u) (λ d. propose_each_good es t ok g)
           (λ d. ok)
-      packet_good from (Ask slot) t ok g = ask_good from slot (given_by t.node.rows.snapshot slot) t ok
+      packet_good from (Ask slot) t ok g = ask_good from slot (given_by t.node.rows.snapshot slot) t ok (given_good t.node.rows.snapshot slot ok.node.based)
       packet_good from (Snapshot s) t ok g = ok
       packet_good from (Learned slot e) t ok g =
           record {
             node =
                 record {
+                  based = ok.node.based;
                   votes = ok.node.votes;
                   role = ok.node.role;
                   learned = learn_good slot e t.node.learner ok.node.learned g;
@@ -369,6 +396,7 @@ module _ {B : Type 0} (G : Entry B → Type 0) where
         cond_both (starts n t.node) (begin members n b floor t) t (λ u. PlanGood u)
         (λ e. record {
           node = record {
+            based = ok.node.based;
             votes = ok.node.votes;
             role =
                 λ c h v i. ok.node.votes v (has_from floor t.node.rows.votes v (subst (λ (z : CountedPromise B). Has z.votes v) (sym (has_one h)) i));
@@ -386,28 +414,28 @@ module _ {B : Type 0} (G : Entry B → Type 0) where
         floor : ℕ
         floor = suc (log_length t.node)
 
-    accepts_good : (learned : List (LearnedEntry B)) (vs : List (Vote B)) → VotesGood vs → SentGood (accepts_again members n learned vs)
-    accepts_good learned [] g p h = absurd (has_nil h)
-    accepts_good learned (v ∷ vs) g p h =
-        sent_good (if is_learned v.slot learned then [] else to_others members n (Accept v)) (accepts_again members n learned vs)
-        (cond_both (is_learned v.slot learned) [] (to_others members n (Accept v)) (λ l. SentGood l) (λ t q z. absurd (has_nil z))
+    accepts_good : (l : LearnerState B) (vs : List (Vote B)) → VotesGood vs → SentGood (accepts_again members n l vs)
+    accepts_good l [] g p h = absurd (has_nil h)
+    accepts_good l (v ∷ vs) g p h =
+        sent_good (if is_known v.slot l then [] else to_others members n (Accept v)) (accepts_again members n l vs)
+        (cond_both (is_known v.slot l) [] (to_others members n (Accept v)) (λ ps. SentGood ps) (λ t q z. absurd (has_nil z))
         (λ t. others_good members n (Accept v) (g v here)))
-        (accepts_good learned vs (λ w i. g w (there i)))
+        (accepts_good l vs (λ w i. g w (there i)))
         p h
 
-    again_good : (r : Role B) (learned : List (LearnedEntry B)) → RoleGood r → SentGood (again members n r learned)
-    again_good Idle learned g p h = absurd (has_nil h)
-    again_good (Preparing b floor cs) learned g p h = some_good n (filter (λ j. not (is_counted cs j)) (others n members)) (Prepare b floor) tt p h
-    again_good (Leading b next table) learned g p h = accepts_good learned table g p h
+    again_good : (r : Role B) (l : LearnerState B) → RoleGood r → SentGood (again members n r l)
+    again_good Idle l g p h = absurd (has_nil h)
+    again_good (Preparing b floor cs) l g p h = some_good n (filter (λ j. not (is_counted cs j)) (others n members)) (Prepare b floor) tt p h
+    again_good (Leading b next table) l g p h = accepts_good l table g p h
 
     tick_good : (t : Plan B) → PlanGood t → PlanGood (on_tick same members n t)
     tick_good t ok =
         let a =
-        send_good (again members n t.node.proposer.role t.node.learner.learned) t ok
-        (again_good t.node.proposer.role t.node.learner.learned ok.node.role) in
-        let pushed = push same members n (send (again members n t.node.proposer.role t.node.learner.learned) t) in
+        send_good (again members n t.node.proposer.role t.node.learner) t ok
+        (again_good t.node.proposer.role t.node.learner ok.node.role) in
+        let pushed = push same members n (send (again members n t.node.proposer.role t.node.learner) t) in
         send_good (to_others members n (Ask (suc (log_length pushed.node)))) pushed
-        (push_good (send (again members n t.node.proposer.role t.node.learner.learned) t) a)
+        (push_good (send (again members n t.node.proposer.role t.node.learner) t) a)
         (others_good members n (Ask (suc (log_length pushed.node))) tt)
 
     take_good : (transport : ℕ) (body : B) (t : Plan B) → PlanGood t → Each (taken_by n transport body t.node)
@@ -446,6 +474,7 @@ module _ {B : Type 0} (G : Entry B → Type 0) where
       record {
         node =
             record {
+              based = ok.node.based;
               votes = ok.node.votes;
               role = tt;
               learned = λ f h. absurd (has_nil h);
@@ -459,11 +488,12 @@ module _ {B : Type 0} (G : Entry B → Type 0) where
   note_good e t ok g =
       record {
         node = record {
+          based = ok.node.based;
           votes = ok.node.votes;
           role = ok.node.role;
           learned = ok.node.learned;
           applied = each_push t.node.applied e ok.node.applied g;
-          pending = λ f h. ok.node.pending f (has_filter (is_wanted (t.node.applied ++ e ∷ [])) t.node.pending h);
+          pending = λ f h. ok.node.pending f (has_filter _ t.node.pending h);
         };
         out = ok.out;
       }
@@ -481,9 +511,73 @@ module _ {B : Type 0} (G : Entry B → Type 0) where
       apply_good n (run_from (suc (log_length t.node)) t.node.learner.learned) t ok
       (run_good t.node.learner.learned (suc (log_length t.node)) ok.node.learned)
 
-  -- what a packet brings
+  -- it rests on a snapshot
+  rested_good : (over : Bool) (s : taken.Snapshot) (t : Plan B) → PlanGood t → F s → PlanGood (rest_on over s t)
+  rested_good over s t ok f = either over
+    where
+      raised_good : (r : Role B) → RoleGood r → RoleGood (raised_above s.floor r)
+      raised_good Idle g = tt
+      raised_good (Preparing b first cs) g = g
+      raised_good (Leading b next table) g = λ v h. g v (has_filter _ table h)
+
+      based : (z : taken.Snapshot) → Some s ≡ Some z → F z
+      based z e = subst (λ k. F k) (same z e) f
+        where
+          same : (z : taken.Snapshot) → Some s ≡ Some z → s ≡ z
+          same z e = cc
+
+      either : (z : Bool) → PlanGood (rest_on z s t)
+      either false =
+          record {
+            node =
+                record {
+                  based = based;
+                  votes = λ v h. ok.node.votes v (has_from (suc s.floor) t.node.rows.votes v h);
+                  role = raised_good t.node.proposer.role ok.node.role;
+                  learned = λ l h. ok.node.learned l (has_filter _ t.node.learner.learned h);
+                  applied = λ e h. absurd (has_nil h);
+                  pending = ok.node.pending;
+                };
+            out = ok.out;
+          }
+      either true =
+          record {
+            node =
+                record {
+                  based = based;
+                  votes = λ v h. ok.node.votes v (has_from (suc s.floor) t.node.rows.votes v h);
+                  role = raised_good t.node.proposer.role ok.node.role;
+                  learned = λ l h. ok.node.learned l (has_filter _ t.node.learner.learned h);
+                  applied = λ e h. absurd (has_nil h);
+                  pending = λ e h. ok.node.pending e (has_filter _ t.node.pending h);
+                };
+            out = ok.out;
+          }
+
+  snapshot_good : (n : ℕ) (s : taken.Snapshot) (t : Plan B) → PlanGood t → F s → PlanGood (on_snapshot n s t)
+  snapshot_good n s t ok f =
+      cond_both (nat_le s.floor (log_length t.node)) t (take_in n s (head_at s.octets) t) (λ u. PlanGood u) (λ d. ok)
+      (λ d. taken_good (head_at s.octets))
+    where
+      taken_good : (o : Option Head) → PlanGood (take_in n s o t)
+      taken_good None = record { node = ok.node; out = ok.out }
+      taken_good (Some head) =
+          cond_both (has_boot n t.node head) t (rest_on true s t) (λ u. PlanGood u) (λ d. ok) (λ d. rested_good true s t ok f)
+
+  delivered_good : (same : B → B → Bool) (members n : ℕ) → G Noop → (from : ℕ) (kind : Kind B) (t : Plan B) → PlanGood t → KindGood kind
+      → PlanGood (deliver same members n from kind t)
+  delivered_good same members n noop from kind t ok g =
+      ⊎_elim
+      (λ (z : (s : taken.Snapshot) × (kind ≡ Snapshot s)). subst (λ k. PlanGood (deliver same members n from k t)) (sym z.1)
+      (snapshot_good n z.0 t ok (subst (λ k. KindGood k) z.1 g)))
+      (λ (z : IsOther same members n from kind). subst (λ u. PlanGood u) (sym (z t)) (packet_good same members n noop from kind t ok g))
+      (by_kind same members n from kind)
+
+  -- what an event brings from elsewhere
   abbrev pub EventGood : Event B → Type 0
-  EventGood e = MatchOption (packet_in e) (Unit {0}) (λ p. KindGood p.kind)
+  EventGood (Deliver p) = KindGood p.kind
+  EventGood (Cut n o) = (s : taken.Snapshot) → o ≡ Some s → F s
+  EventGood _ = Unit {0}
 
   pub outcome_good : (same : B → B → Bool) (members : ℕ) → G Noop → (e : Event B) (x : NodeState B) → NodeGood x → EventGood e
       → Each (made_by same e x) → PlanGood (outcome_of same members e x)
@@ -492,6 +586,10 @@ module _ {B : Type 0} (G : Entry B → Type 0) where
       start : PlanGood (begun x)
       start = record { node = ok; out = λ p h. absurd (has_nil h) }
 
+      cut_good : (o : Option taken.Snapshot) → ((s : taken.Snapshot) → o ≡ Some s → F s) → PlanGood (on_cut o (begun x))
+      cut_good None f = start
+      cut_good (Some s) f = rested_good false s (begun x) start (f s refl)
+
       go : (f : Event B) → EventGood f → Each (made_by same f x) → PlanGood (outcome_of same members f x)
       go (Take n t body) eg g = settle_good n _ (take_good same members n t body (begun x) start g)
       go (Tick n) eg g = settle_good n _ (tick_good same members n (begun x) start)
@@ -499,13 +597,16 @@ module _ {B : Type 0} (G : Entry B → Type 0) where
       go (Suspect n other) eg g = settle_good n _ (suspect_good same members n (new_lost same n other x) (begun x) start g)
       go (Deliver p) eg g =
           settle_good p.addressee _
-          (packet_good same members p.addressee noop p.sender p.kind (record (begun x) { node = saw p.kind x })
+          (delivered_good same members p.addressee noop p.sender p.kind (record (begun x) { node = saw p.kind x })
           (role_good x.proposer.role (saw p.kind x).proposer.seen (begun x) start ok.role) eg)
-      go (Crash n) eg g = fallen_good (begun x) start
+      go (Cut n o) eg g = settle_good n _ (cut_good o eg)
+      go (Crash n) eg g = settle_good n _ (fallen_good (begun x) start)
       go (Restart n) eg g =
-          record {
+          settle_good n (record (begun x) { node = started n (raised x.rows) })
+          (record {
             node =
                 record {
+                  based = ok.based;
                   votes = ok.votes;
                   role = tt;
                   learned = λ f h. absurd (has_nil h);
@@ -513,4 +614,4 @@ module _ {B : Type 0} (G : Entry B → Type 0) where
                   pending = λ f h. subst (λ z. G z) (has_one h) (g (Boot n (suc x.rows.boot)) here);
                 };
             out = λ p h. absurd (has_nil h);
-          }
+          })

@@ -7,20 +7,22 @@ use Rattle.std.proofs.lemmas.List.Elements.{filter_map-append}
 use Rattle.std.proofs.lemmas.Bool.{cond_both, cond-true, cond-false, cases_eq, and_parts, and_from, eq-eqb, eqb-true}
 use Rattle.cluster_world.proofs.Lists.{has_nil, has_one, has_cases, has_left, has_right}
 use Rattle.cluster_world.proofs.EveryWorld.{within, node_same, node_other, among_has}
-use Rattle.cluster_world.proofs.Standing.{acts_after}
-use Rattle.cluster_world.proofs.Handing.{Ran, Began, event_cases}
+use Rattle.cluster_world.proofs.Cuts.{under_each}
+use Rattle.cluster_world.proofs.Standing.{acts_after, Ran, Began, OnFrom, event_cases}
 use Rattle.cluster_world.proofs.Sources.{Each, VotesGood, SentGood, NodeGood, EventGood, sent_good, outcome_good}
 use Rattle.cluster_world.specs.Has.{Has, here}
 use Rattle.paxos_packets.specs.Rows.{first_rows}
+use Rattle.paxos_packets.specs.Snapshot as taken
 use Rattle.paxos_packets.specs.declared.entry.Entry.{Entry}
 use Rattle.paxos_packets.specs.declared.entry.Entry.TheVariants.{Noop, Boot, Lost, Item}
 use Rattle.replica_machine.specs.Roll.{live_in}
 use Rattle.paxos_node.specs.declared.event.Event.{Event}
-use Rattle.paxos_node.specs.declared.event.Event.TheVariants.{Take, Tick, Start, Suspect, Deliver, Crash, Restart}
+use Rattle.paxos_node.specs.declared.event.Event.TheVariants.{Take, Tick, Start, Suspect, Deliver, Cut, Crash, Restart}
 use Rattle.paxos_planning.specs.Node.{NodeState, Plan}
 use Rattle.paxos_node.specs.Applying.{standing_of, started}
 use Rattle.paxos_node.specs.Events.{takes, new_item, has_room, is_pending, new_lost_of, new_lost, owner, possible, outcome_of, suspected_by, made_by}
-use Rattle.cluster_world.specs.World.{World, absent, node_at, put_node, founded, first_boots, first_world, was_sent, done, next, play, played, log_of}
+use Rattle.cluster_world.specs.World.{World, absent, node_at, put_node, founded, first_boots, first_world, was_sent, done, next, play, played, under, log_of, cut_by}
+use Rattle.cluster_world.specs.World as worlds
 use Rattle.cluster_world.specs.Origins.{Act, act_in, acts_of, ItemsWereTaken}
 use Rattle.paxos_packets.specs.Body.{IsEquality}
 
@@ -44,7 +46,7 @@ module _ {B : Type 0} (same : B → B → Bool) (members : ℕ) where
       (λ t. go (and_parts (was_sent same e w.sent) (possible e (at' w e)) t)) (λ t. stay)
 
   -- the nodes are the members
-  next_length : (w : World B) (e : Event B) → length w.nodes ≡ members → length (next same members w e).nodes ≡ members
+  pub next_length : (w : World B) (e : Event B) → length w.nodes ≡ members → length (next same members w e).nodes ≡ members
   next_length w e h = by_next (λ z. length z.nodes ≡ members) w e h (λ m. put_length (owner e) ∙ h)
     where
       put_length : (k : ℕ) → length (put_node w.nodes k (goes w e).node) ≡ length w.nodes
@@ -68,27 +70,60 @@ module _ {B : Type 0} (same : B → B → Bool) (members : ℕ) where
   -- every entry comes from what was made
 
   module _ (equal : IsEquality same) (G : Entry B → Type 0) (noop : G Noop) where
+    abbrev whatever : taken.Snapshot → Type 0
+    whatever s = Unit {0}
+
     record AllGood (w : World B) : Type 0 where
-      nodes : (k : ℕ) → NodeGood G (node_at w.nodes k)
-      sent : SentGood G w.sent
+      nodes : (k : ℕ) → NodeGood G whatever (node_at w.nodes k)
+      sent : SentGood G whatever w.sent
+      cuts : (c : worlds.Cut B) → Has w.cuts c → Each G whatever c.log
 
-    event_good : (w : World B) (e : Event B) → AllGood w → was_sent same e w.sent ≡ true → EventGood G e
+    event_good : (w : World B) (e : Event B) → AllGood w → was_sent same e w.sent ≡ true → EventGood G whatever e
     event_good w (Deliver p) ok s = ok.sent p (among_has same equal p w.sent s)
-    event_good w _ ok s = tt
+    event_good w (Cut n o) ok s = λ z i. tt
+    event_good w (Take n t body) ok s = tt
+    event_good w (Tick n) ok s = tt
+    event_good w (Start n) ok s = tt
+    event_good w (Suspect n other) ok s = tt
+    event_good w (Crash n) ok s = tt
+    event_good w (Restart n) ok s = tt
 
-    next_good : (w : World B) (e : Event B) → AllGood w → Each G (next same members w e).made → AllGood (next same members w e)
-    next_good w e ok = by_next (λ z. Each G z.made → AllGood z) w e (λ g. ok) go
+    -- the whole log of a node
+    stood_good : (w : World B) → AllGood w → (k : ℕ) → Each G whatever (log_of w k)
+    stood_good w ok k =
+        cond_both (node_at w.nodes k).up (under w.cuts (node_at w.nodes k).rows.snapshot ++ (node_at w.nodes k).applied) []
+        (λ l. Each G whatever l)
+        (λ u e h. ⊎_elim
+        (λ a. under_each (λ l. Each G whatever l) (λ f i. absurd (has_nil i)) w.cuts ok.cuts (node_at w.nodes k).rows.snapshot e a)
+        (λ a. (ok.nodes k).applied e a)
+        (has_cases (under w.cuts (node_at w.nodes k).rows.snapshot) (node_at w.nodes k).applied h))
+        (λ u e h. absurd (has_nil h))
+
+    cut_good : (w : World B) (e : Event B) → AllGood w → (c : worlds.Cut B) → Has (cut_by w e) c → Each G whatever c.log
+    cut_good w (Cut n None) ok c h = absurd (has_nil h)
+    cut_good w (Cut n (Some s)) ok c h = subst (λ (d : worlds.Cut B). Each G whatever d.log) (has_one h) (stood_good w ok n)
+    cut_good w (Deliver p) ok c h = absurd (has_nil h)
+    cut_good w (Take n t body) ok c h = absurd (has_nil h)
+    cut_good w (Tick n) ok c h = absurd (has_nil h)
+    cut_good w (Start n) ok c h = absurd (has_nil h)
+    cut_good w (Suspect n other) ok c h = absurd (has_nil h)
+    cut_good w (Crash n) ok c h = absurd (has_nil h)
+    cut_good w (Restart n) ok c h = absurd (has_nil h)
+
+    next_good : (w : World B) (e : Event B) → AllGood w → Each G whatever (next same members w e).made → AllGood (next same members w e)
+    next_good w e ok = by_next (λ z. Each G whatever z.made → AllGood z) w e (λ g. ok) go
       where
-        go : May w e → Each G (done same w e (at' w e) (goes w e)).made → AllGood (done same w e (at' w e) (goes w e))
+        go : May w e → Each G whatever (done same w e (at' w e) (goes w e)).made → AllGood (done same w e (at' w e) (goes w e))
         go may g =
-            let t = outcome_good G same members noop e (at' w e) (ok.nodes (owner e)) (event_good w e ok may.0) (λ x h. g x (has_right w.made h)) in
+            let t = outcome_good G whatever same members noop e (at' w e) (ok.nodes (owner e)) (event_good w e ok may.0) (λ x h. g x (has_right w.made h)) in
             record {
               nodes = λ k. ⊎_elim
-                  (λ (i : k ≡ owner e). subst (λ j. NodeGood G (node_at (put_node w.nodes (owner e) (goes w e).node) j)) (sym i)
-                  (subst (λ x. NodeGood G x) (sym (node_same w.nodes (owner e) (goes w e).node (within w.nodes e (owner e) may.1))) t.node))
-                  (λ i. subst (λ x. NodeGood G x) (sym (node_other w.nodes (owner e) (goes w e).node k i)) (ok.nodes k))
+                  (λ (i : k ≡ owner e). subst (λ j. NodeGood G whatever (node_at (put_node w.nodes (owner e) (goes w e).node) j)) (sym i)
+                  (subst (λ x. NodeGood G whatever x) (sym (node_same w.nodes (owner e) (goes w e).node (within w.nodes e (owner e) may.1))) t.node))
+                  (λ i. subst (λ x. NodeGood G whatever x) (sym (node_other w.nodes (owner e) (goes w e).node k i)) (ok.nodes k))
                   (cases_eq k (owner e));
-              sent = sent_good G w.sent (goes w e).packets ok.sent t.out;
+              sent = sent_good G whatever w.sent (goes w e).packets ok.sent t.out;
+              cuts = λ c h. ⊎_elim (λ i. ok.cuts c i) (λ i. cut_good w e ok c i) (has_cases w.cuts (cut_by w e) h);
             }
 
     made_next : (w : World B) (e : Event B) (x : Entry B) → Has w.made x → Has (next same members w e).made x
@@ -98,14 +133,15 @@ module _ {B : Type 0} (same : B → B → Bool) (members : ℕ) where
     made_play [] w x h = h
     made_play (e ∷ events) w x h = made_play events (next same members w e) x (made_next w e x h)
 
-    play_good : (events : List (Event B)) (w : World B) → AllGood w → Each G (play same members events w).made → AllGood (play same members events w)
+    play_good : (events : List (Event B)) (w : World B) → AllGood w → Each G whatever (play same members events w).made → AllGood (play same members events w)
     play_good [] w ok g = ok
     play_good (e ∷ events) w ok g =
         play_good events (next same members w e) (next_good w e ok (λ x h. g x (made_play events (next same members w e) x h))) g
 
-    started_good : (k : ℕ) → G (Boot k 1) → NodeGood G (started k first_rows)
+    started_good : (k : ℕ) → G (Boot k 1) → NodeGood G whatever (started k first_rows)
     started_good k g =
         record {
+          based = λ s e. tt;
           votes = λ v h. absurd (has_nil h);
           role = tt;
           learned = λ f h. absurd (has_nil h);
@@ -113,9 +149,10 @@ module _ {B : Type 0} (same : B → B → Bool) (members : ℕ) where
           pending = λ e h. subst (λ z. G z) (has_one h) g;
         }
 
-    absent_good : NodeGood G absent
+    absent_good : NodeGood G whatever absent
     absent_good =
         record {
+          based = λ s e. tt;
           votes = λ v h. absurd (has_nil h);
           role = tt;
           learned = λ f h. absurd (has_nil h);
@@ -123,34 +160,47 @@ module _ {B : Type 0} (same : B → B → Bool) (members : ℕ) where
           pending = λ e h. absurd (has_nil h);
         }
 
-    push_good : (xs : List (NodeState B)) (x : NodeState B) → NodeGood G x → ((k : ℕ) → NodeGood G (slice_index_or xs k absent)) → (k : ℕ)
-        → NodeGood G (slice_index_or (xs ++ x ∷ []) k absent)
+    push_good : (xs : List (NodeState B)) (x : NodeState B) → NodeGood G whatever x → ((k : ℕ) → NodeGood G whatever (slice_index_or xs k absent)) → (k : ℕ)
+        → NodeGood G whatever (slice_index_or (xs ++ x ∷ []) k absent)
     push_good [] x p h zero = p
     push_good [] x p h (suc k) = absent_good
     push_good (y ∷ ys) x p h zero = h zero
     push_good (y ∷ ys) x p h (suc k) = push_good ys x p (λ j. h (suc j)) k
 
-    founded_good : (n : ℕ) → Each G (first_boots n) → (k : ℕ) → NodeGood G (slice_index_or (founded n) k absent)
+    founded_good : (n : ℕ) → Each G whatever (first_boots n) → (k : ℕ) → NodeGood G whatever (slice_index_or (founded n) k absent)
     founded_good zero g k = absent_good
     founded_good (suc n) g k =
         push_good (founded n) (started (suc n) first_rows) (started_good (suc n) (g (Boot (suc n) 1) (has_right (first_boots n) here)))
         (founded_good n (λ e h. g e (has_left _ h))) k
 
-    first_good : Each G (first_boots members) → AllGood (first_world members)
-    first_good g = record { nodes = at; sent = λ p h. absurd (has_nil h) }
+    first_good : Each G whatever (first_boots members) → AllGood (first_world members)
+    first_good g = record { nodes = at; sent = λ p h. absurd (has_nil h); cuts = λ c h. absurd (has_nil h) }
       where
-        at : (k : ℕ) → NodeGood G (node_at (founded members) k)
+        at : (k : ℕ) → NodeGood G whatever (node_at (founded members) k)
         at zero = absent_good
         at (suc k) = founded_good members g k
 
-    pub votes_good : (events : List (Event B)) → Each G (played same members events).made → (k : ℕ)
-        → VotesGood G (node_at (played same members events).nodes k).rows.votes
+    pub votes_good : (events : List (Event B)) → Each G whatever (played same members events).made → (k : ℕ)
+        → VotesGood G whatever (node_at (played same members events).nodes k).rows.votes
     votes_good events g k =
         ((play_good events (first_world members) (first_good (λ x h. g x (made_play events (first_world members) x h))) g).nodes k).votes
 
-    log_good : (events : List (Event B)) → Each G (played same members events).made → (k : ℕ) → Each G (log_of (played same members events) k)
+    cuts_good : (events : List (Event B)) → Each G whatever (played same members events).made → (c : worlds.Cut B)
+        → Has (played same members events).cuts c → Each G whatever c.log
+    cuts_good events g c h =
+        (play_good events (first_world members) (first_good (λ x h. g x (made_play events (first_world members) x h))) g).cuts c h
+
+    log_good : (events : List (Event B)) → Each G whatever (played same members events).made → (k : ℕ) → Each G whatever (log_of (played same members events) k)
     log_good events g k =
-        ((play_good events (first_world members) (first_good (λ x h. g x (made_play events (first_world members) x h))) g).nodes k).applied
+        stood_good (played same members events)
+        (play_good events (first_world members) (first_good (λ x h. g x (made_play events (first_world members) x h))) g) k
+
+  pub cut_was_made : IsEquality same → (events : List (Event B)) (c : worlds.Cut B) → Has (played same members events).cuts c → (e : Entry B)
+      → Has c.log e → (e ≡ Noop) ⊎ Has (played same members events).made e
+  cut_was_made equal events c h e i = cuts_good equal G (inl refl) events (λ x i. inr i) c h e i
+    where
+      G : Entry B → Type 0
+      G x = (x ≡ Noop) ⊎ Has (played same members events).made x
 
   pub log_was_made : IsEquality same → (events : List (Event B)) (k : ℕ) (e : Entry B) → Has (log_of (played same members events) k) e
       → (e ≡ Noop) ⊎ Has (played same members events).made e
@@ -302,6 +352,7 @@ module _ {B : Type 0} (same : B → B → Bool) (members : ℕ) where
   event_adds (Start n) x p = adds_none (Start n) x refl refl
   event_adds (Suspect n other) x p = suspect_adds n other x
   event_adds (Deliver q) x p = adds_none (Deliver q) x refl refl
+  event_adds (Cut n o) x p = adds_none (Cut n o) x refl refl
   event_adds (Crash n) x p = adds_none (Crash n) x refl refl
   event_adds (Restart n) x p = adds_other (Restart n) x (Boot n (suc x.rows.boot)) (λ k c. refl) (λ k c q t y d. differ k c q t y d) refl refl
     where
@@ -396,12 +447,12 @@ module _ {B : Type 0} (same : B → B → Bool) (members : ℕ) where
       ran r =
           record {
             now = λ u. ⊎_elim
-                (λ (c : (o.node.up ≡ true) × (o.node.applied ≡ x.applied ++ o.applied) × (o.node.taken ≡ acts_after e x)).
+                (λ (c : OnFrom same members e x).
                 ap (λ b. length (acts_of (owner e) b (w.made ++ more))) r.from.boot_is
                 ∙ (ap (λ l. length l) (acts_on (owner e) x.rows.boot w.made more)
                 ∙ (length-append (acts_of (owner e) x.rows.boot w.made) (acts_of (owner e) x.rows.boot more)
                 ∙ (sum (length (acts_of (owner e) x.rows.boot w.made)) (length (acts_of (owner e) x.rows.boot more)) x.taken (old.now r.was)
-                ∙ (adds.own ∙ sym c.2)))))
+                ∙ (adds.own ∙ sym c.acts)))))
                 (λ c. absurd (off (sym c.0 ∙ u)))
                 r.from.case;
             later =
@@ -496,3 +547,30 @@ module _ {B : Type 0} (same : B → B → Bool) (members : ℕ) where
 
 pub items_were_taken : {B : Type 0} (same : B → B → Bool) → IsEquality same → ItemsWereTaken B same
 items_were_taken same equal members events k n b q t y h = item_was_taken same members equal events k n b q t y h
+
+-- what holds in the first world and is kept by each event holds in every world
+pub in_every : {B : Type 0} (same : B → B → Bool) (members : ℕ) (P : World B → Type 0)
+    → ((w : World B) (e : Event B) → P w → P (next same members w e)) → (events : List (Event B)) (w : World B) → P w
+    → P (play same members events w)
+in_every same members P keep [] w h = h
+in_every same members P keep (e ∷ events) w h = in_every same members P keep events (next same members w e) (keep w e h)
+
+-- the nodes of the first world
+pub founded_each : {B : Type 0} (P : ℕ → NodeState B → Type 0) → ((k : ℕ) → P (suc k) (started (suc k) first_rows)) → ((k : ℕ) → P k absent)
+    → (n k : ℕ) → P k (node_at (founded n) k)
+founded_each {B} P s a n zero = a zero
+founded_each {B} P s a n (suc k) = each n k
+  where
+    push : (xs : List (NodeState B)) (x : NodeState B) (Q : ℕ → NodeState B → Type 0) → Q (length xs) x → ((j : ℕ) → Q j absent)
+        → ((j : ℕ) → Q j (slice_index_or xs j absent)) → (j : ℕ) → Q j (slice_index_or (xs ++ x ∷ []) j absent)
+    push [] x Q q b h zero = q
+    push [] x Q q b h (suc j) = b (suc j)
+    push (y ∷ ys) x Q q b h zero = h zero
+    push (y ∷ ys) x Q q b h (suc j) = push ys x (λ i. Q (suc i)) q (λ i. b (suc i)) (λ i. h (suc i)) j
+
+    each : (m j : ℕ) → P (suc j) (slice_index_or (founded m) j absent)
+    each zero j = a (suc j)
+    each (suc m) j =
+        push (founded m) (started (suc m) first_rows) (λ i x. P (suc i) x)
+        (subst (λ i. P (suc i) (started (suc m) first_rows)) (sym (founded_length {B = B} (λ x y. true) 0 m)) (s m))
+        (λ i. a (suc i)) (λ i. each m i) j

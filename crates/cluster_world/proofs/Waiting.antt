@@ -8,6 +8,7 @@ use Rattle.cluster_world.proofs.Lists.{has_nil, has_one, has_first, has_cases, h
 use Rattle.cluster_world.proofs.EveryWorld.{WorldOk, world_ok, start_good, Within, within, node_same, play_on}
 use Rattle.cluster_world.proofs.Taking.{May, by_next, nodes_length, log_was_made}
 use Rattle.cluster_world.proofs.Booting.{MadeLost, made_lost, boot_was_had, first_no_lost}
+use Rattle.cluster_world.proofs.Heads.{stands}
 use Rattle.cluster_world.proofs.AtOnce.{AtRest, settle_rest, calm_rest, Agrees}
 use Rattle.cluster_world.proofs.EventsAtOnce.{ends_pending, all_rest}
 use Rattle.cluster_world.specs.Has.{Has, here, there}
@@ -46,7 +47,7 @@ module _ {B : Type 0} (same : B → B → Bool) where
       never : ◌≡◌ {A = Option (Entry B)} None (Some l) → ⊥
       never e = cc
 
-  module _ (equal : IsEquality same) (members : ℕ) where
+  module _ (equal : IsEquality same) (members : ℕ) (seven : members ≤ 7) where
     -- after the suspicion it is pending
     pends : 2 ≤ members → (w : World B) (by n : ℕ) (l : Entry B) → WorldOk members w → AtRest (node_at w.nodes by)
         → new_lost same by n (node_at w.nodes by) ≡ Some l → has_room (node_at w.nodes by) ≡ true
@@ -164,8 +165,8 @@ module _ {B : Type 0} (same : B → B → Bool) where
         other : by ≡ n → ⊥
         other = not_itself by n x (Lost n b) s.0
 
-        live : live_boot n x.applied ≡ Some b
-        live = live_boot_is n x.applied ∙ l
+        live : live_boot n (log_of w by) ≡ Some b
+        live = live_boot_is n (log_of w by) ∙ l
 
         inside : Within w.nodes by
         inside = within w.nodes (Suspect by n) by m.1
@@ -199,7 +200,8 @@ module _ {B : Type 0} (same : B → B → Bool) where
         new : May same members w e → done same w e (node_at w.nodes (owner e)) (outcome_of same members e (node_at w.nodes (owner e)))
             ≡ played same members (early ++ e ∷ []) → (n b : ℕ) → MadeLost e (node_at w.nodes (owner e)) n b
             → Has (made_by same e (node_at w.nodes (owner e))) (Lost n b) → Suspected same members (early ++ e ∷ []) n b
-        new m g n b made i = subst (λ f. Goal f n b) (sym made.is) (λ m g i l. suspects early made.by n b m i l g) m g i made.live
+        new m g n b made i = subst (λ f. Goal f n b) (sym made.is) (λ m g i l. suspects early made.by n b m i
+            (ap (λ s. live_in s) (sym (stands same equal members seven early made.by m.1 n)) ∙ l) g) m g i made.live
 
     suspected_play : (todo early : List (Event B)) → AllSuspected early (played same members early).made
         → AllSuspected (early ++ todo) (played same members (early ++ todo)).made
@@ -219,4 +221,4 @@ module _ {B : Type 0} (same : B → B → Bool) where
         differ e = cc
 
 pub losts_were_suspected : {B : Type 0} (same : B → B → Bool) → IsEquality same → LostsWereSuspected B same
-losts_were_suspected same equal members events k n b h = lost_was_suspected same equal members events k n b h
+losts_were_suspected same equal members seven events k n b h = lost_was_suspected same equal members seven events k n b h

@@ -86,7 +86,7 @@ module _ {B : Type 0} (n b : ℕ) (acts : List (Act B)) (log pending : List (Ent
       owned : kept e ≡ true → is_wanted log e ≡ true
       owned k =
           (passes_both (is_wanted log) (owed_by n b (standing n log) acts) e
-          (subst (λ l. Has l e) (sym (stays n b log (standing n log) acts may refl).1) (owed_one e h k))).0
+          (subst (λ l. Has l e) (sym (stays n b (standings log) (standing n log) acts may refl).1) (owed_one e h k))).0
 
       lost : (f : Entry B) → Has pending f → kept f ≡ false → is_wanted log f ≡ true
       lost Noop g k = absurd (off (sym k))

@@ -19,13 +19,14 @@ use Rattle.paxos_proposer.specs.Proposer.{slot_end, next_vote, is_leading}
 use Rattle.paxos_proposer.specs.Promises.{lowest}
 use Rattle.paxos_proposer.specs.Reports.{is_counted, reports, called_for}
 use Rattle.paxos_node.specs.declared.event.Event.{Event}
-use Rattle.paxos_node.specs.declared.event.Event.TheVariants.{Take, Tick, Start, Suspect, Deliver, Crash, Restart}
+use Rattle.paxos_node.specs.declared.event.Event.TheVariants.{Take, Tick, Start, Suspect, Deliver, Cut, Crash, Restart}
 use Rattle.paxos_planning.specs.Node.{NodeState, Plan, log_length}
 use Rattle.paxos_planning.specs.Plan.{with_role, with_pending, begun, send, vote, count as count_at_end, hear_learned}
 use Rattle.paxos_planning.specs.Proposals.{offer, stands, forwarded}
 use Rattle.paxos_planning.specs.Replies.{saw, refuse, show, on_prepare, on_nack, on_ask}
 use Rattle.paxos_node.specs.Applying.{started, go_down, settle}
 use Rattle.paxos_node.specs.Events.{takes, with_item, has_room, new_lost, owner, outcome_of}
+use Rattle.paxos_node.specs.Snapshots.{on_cut, on_snapshot}
 use Rattle.paxos_planning.specs.Ticking.{again, ask}
 use Rattle.paxos_planning.specs.Starting.{on_start}
 use Rattle.cluster_world.specs.World.{node_at, played}
@@ -110,7 +111,7 @@ on_packet same members me sender (Nack b p) o = on_nack b p o
 on_packet same members me sender (Forward es) o = on_forward same members me es o
 on_packet same members me sender (Learned s e) o = settle me (hear_learned same s e o)
 on_packet same members me sender (Ask first) o = on_ask me sender first o
-on_packet same members me sender (Snapshot s) o = o
+on_packet same members me sender (Snapshot s) o = settle me (on_snapshot me s o)
 
 -- events
 
@@ -120,7 +121,7 @@ on_take same members me transport body o =
     else o
 
 abbrev pub on_tick : {B : Type 0} → (B → B → Bool) → ℕ → ℕ → Plan B → Plan B
-on_tick same members me o = ask members me (push same members me (send (again members me o.node.proposer.role o.node.learner.learned) o))
+on_tick same members me o = ask members me (push same members me (send (again members me o.node.proposer.role o.node.learner) o))
 
 abbrev pub suspected : {B : Type 0} → (B → B → Bool) → ℕ → ℕ → Option (Entry B) → Plan B → Plan B
 suspected same members me None o = o
@@ -134,6 +135,7 @@ on_event same members (Tick n) o = on_tick same members n o
 on_event same members (Start n) o = on_start members n o
 on_event same members (Suspect n other) o = suspected same members n (new_lost same n other o.node) o
 on_event same members (Deliver p) o = on_packet same members p.addressee p.sender p.kind (record o { node = saw p.kind o.node })
+on_event same members (Cut n snapshot) o = on_cut snapshot o
 on_event same members (Crash n) o = go_down o
 on_event same members (Restart n) o = record o { node = started n (raised o.node.rows) }
 

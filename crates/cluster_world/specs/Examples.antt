@@ -12,6 +12,7 @@ use Rattle.paxos_packets.specs.declared.entry.Entry.{Entry}
 use Rattle.paxos_packets.specs.declared.entry.Entry.TheVariants.{Noop, Boot, Lost, Item}
 use Rattle.paxos_packets.specs.declared.packet.Kind.TheVariants.{Prepare, Promise, Accept, Accepted}
 use Rattle.replica_machine.specs.Examples.{adding, transport}
+use Rattle.replica_machine.specs.SnapshotExamples.{eight}
 use Rattle.paxos_packets.specs.declared.transport.Transport.{Transport}
 
 abbrev pub same_number : ℕ → ℕ → Bool
@@ -20,8 +21,9 @@ same_number m n = m == n
 abbrev pub nodes : List ℕ → List Bool
 nodes ns = fold set_with no_nodes ns
 
+-- the machine that adds up saves its sum as eight octets
 abbrev pub run : ℕ → List (Line ℕ) → World ℕ
-run members lines = (run_script same_number members lines).world
+run members lines = (run_script eight adding same_number members lines).world
 
 -- one session through three nodes: two acts of a transport of node 2
 abbrev pub one_session : List (Line ℕ)

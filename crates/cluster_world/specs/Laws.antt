@@ -6,6 +6,7 @@ use Rattle.paxos_packets.specs.declared.packet.Kind.TheVariants.{Learned}
 use Rattle.paxos_learner.specs.declared.learned.LearnedEntry.{LearnedEntry}
 use Rattle.paxos_learner.specs.Learned.{is_learned}
 use Rattle.paxos_node.specs.declared.event.Event.{Event}
+use Rattle.paxos_planning.specs.Node.{log_length}
 use Rattle.paxos_node.specs.Events.{owner, possible, outcome_of}
 use Rattle.cluster_world.specs.World.{Applied, World, node_at, was_sent, played, log_of}
 use Rattle.cluster_world.specs.Chosen.{WasSent, Chosen}
@@ -53,7 +54,8 @@ NeverDisagrees B same =
 abbrev pub NothingWaits : (B : Type 0) → (B → B → Bool) → Type 0
 NothingWaits B same =
     (members : ℕ) (events : List (Event B)) (node : ℕ) →
-    is_learned (suc (length (log_of (played same members events) node))) (node_at (played same members events).nodes node).learner.learned ≡ false
+    is_learned (suc (log_length (node_at (played same members events).nodes node))) (node_at (played same members events).nodes node).learner.learned
+    ≡ false
 
 -- log agreement
 
@@ -96,9 +98,9 @@ abbrev pub LogAfterIsApplied : (B : Type 0) → (B → B → Bool) → Type 0
 LogAfterIsApplied B same =
     (members : ℕ) (events : List (Event B)) (e : Event B) → may same (played same members events) e ≡ true →
     (a : Applied B) × Has (played same members (events ++ e ∷ [])).applied a
-    × (applied_behind a ≡ log_after same members e (node_at (played same members events).nodes (owner e)))
+    × (applied_behind a ≡ log_after same members (played same members events) e)
 
--- and so is each log, but for the empty one
+-- and so is each log, but for the empty one; that of a snapshot is one, too
 abbrev pub LogIsApplied : (B : Type 0) → (B → B → Bool) → Type 0
 LogIsApplied B same =
     (members : ℕ) (events : List (Event B)) (node : ℕ) →

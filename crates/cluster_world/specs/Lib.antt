@@ -1,5 +1,6 @@
 pub mod Has
 pub mod World
+pub mod Saving
 pub mod Chosen
 pub mod Laws
 pub mod Answers
@@ -9,9 +10,12 @@ pub mod Proposers
 pub mod Majorities
 pub mod Scripts
 pub mod Examples
+pub mod CutExamples
+pub mod CutLogs
 pub mod Steps
 pub mod AtOnce
 pub mod StandsAt
+pub mod MemberSnapshots
 pub mod Members
 pub mod Founding
 pub mod Headline

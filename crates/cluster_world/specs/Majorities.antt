@@ -1,12 +1,13 @@
 -- What majorities hold of what is chosen, and what is known of a ballot before its own node promises it (docs/CONSENSUS.md, "What holds over
 -- every list of events").
-use Rattle.std.specs.Prelude.{◌≡◌, ℕ, ◌≤◌, Bool, true, false, List}
+use Rattle.std.specs.Prelude.{◌≡◌, ℕ, ◌≤◌, ◌<◌, Bool, true, false, List}
 use Rattle.paxos_packets.specs.Ballot.{below}
 use Rattle.paxos_packets.specs.Members.{IsMajority, IsMember, is_in}
 use Rattle.paxos_packets.specs.declared.ballot.Ballot.{Ballot}
 use Rattle.paxos_packets.specs.declared.entry.Entry.{Entry}
 use Rattle.paxos_packets.specs.declared.packet.Kind.TheVariants.{Prepare, Accept, Accepted}
 use Rattle.paxos_packets.specs.declared.vote.Vote.{Vote}
+use Rattle.paxos_packets.specs.Snapshot.{floor_in}
 use Rattle.paxos_acceptor.specs.Acceptor.{may_promise}
 use Rattle.paxos_learner.specs.declared.tallies.SlotBallot.{SlotBallot}
 use Rattle.paxos_planning.specs.Node.{NodeState}
@@ -28,11 +29,16 @@ pub record Holds {B : Type 0} (members : ℕ) (nodes : List (NodeState B)) (set 
   pub has : HasVote nodes node (record { slot = slot; ballot = ballot; entry = entry })
   pub above : (k : ℕ) (v : Vote B) → HasVote nodes k v → v.slot ≡ slot → below v.ballot ballot ≡ false → v.entry ≡ entry
 
--- each majority holds what is chosen
+-- the slot is above the floor of each member of the set
+abbrev pub IsAboveFloors : {B : Type 0} → ℕ → List (NodeState B) → (ℕ → Bool) → ℕ → Type 0
+IsAboveFloors members nodes set slot = (k : ℕ) → IsMember members k → set k ≡ true → floor_in (node_at nodes k).rows.snapshot < slot
+
+-- each majority holds what is chosen, above the floors of its members
 abbrev pub MajoritiesHold : (B : Type 0) → (B → B → Bool) → Type 0
 MajoritiesHold B same =
     (members : ℕ) → 3 ≤ members → (events : List (Event B)) (slot : ℕ) (entry : Entry B) →
     Chosen members (played same members events).sent slot entry → (set : ℕ → Bool) → IsMajority members set →
+    IsAboveFloors members (played same members events).nodes set slot →
     Holds members (played same members events).nodes set slot entry
 
 -- nobody asked for the ballot's promise or for a vote in it, nobody cast one, and nobody heard one

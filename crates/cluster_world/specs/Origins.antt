@@ -57,7 +57,7 @@ pub record Suspected {B : Type 0} (same : B → B → Bool) (members : ℕ) (eve
 
 abbrev pub LostsWereSuspected : (B : Type 0) → (B → B → Bool) → Type 0
 LostsWereSuspected B same =
-    (members : ℕ) (events : List (Event B)) (node n b : ℕ) → Has (log_of (played same members events) node) (Lost n b)
+    (members : ℕ) → members ≤ 7 → (events : List (Event B)) (node n b : ℕ) → Has (log_of (played same members events) node) (Lost n b)
     → Suspected same members events n b
 
 -- each entry of a log names a node from 1 to 7 and a boot from 1 on, and an Item a number and a transport from 1 on; so what a log is saved as

@@ -4,13 +4,12 @@ use Rattle.std.specs.Prelude.{◌≡◌, ℕ, suc, ◌≤◌, Bool, true, false,
 use Rattle.paxos_packets.specs.declared.entry.Entry.{Entry}
 use Rattle.paxos_packets.specs.declared.entry.Entry.TheVariants.{Noop, Boot, Lost, Item}
 use Rattle.replica_machine.specs.Effects.{is_the, live_boot, items_taken}
-use Rattle.paxos_planning.specs.Node.{NodeState}
 use Rattle.paxos_node.specs.declared.event.Event.{Event}
 use Rattle.paxos_node.specs.Applying.{down}
 use Rattle.paxos_node.specs.Events.{most_pending}
 use Rattle.cluster_world.specs.Has.{Has}
 use Rattle.cluster_world.specs.Origins.{Act, acts_of}
-use Rattle.cluster_world.specs.World.{World, node_at, played}
+use Rattle.cluster_world.specs.World.{World, node_at, played, log_of}
 
 -- it is the loss of some boot
 abbrev pub is_any_lost : {B : Type 0} → Entry B → Bool
@@ -25,11 +24,11 @@ items_after n b taken [] = []
 items_after n b taken (a ∷ acts) = Item n b (suc taken) a.transport a.body ∷ items_after n b (suc taken) acts
 
 -- what node n owes: while its boot isn't live by its log, its Boot and all acts of the boot; then the acts after those that took effect
-abbrev pub owed : {B : Type 0} → ℕ → NodeState B → List (Act B) → List (Entry B)
-owed n x acts =
-    if is_the (live_boot n x.applied) x.rows.boot
-    then items_after n x.rows.boot (items_taken n x.applied) (drop (items_taken n x.applied) acts)
-    else Boot n x.rows.boot ∷ items_after n x.rows.boot 0 acts
+abbrev pub owed : {B : Type 0} → ℕ → List (Entry B) → ℕ → List (Act B) → List (Entry B)
+owed n log boot acts =
+    if is_the (live_boot n log) boot
+    then items_after n boot (items_taken n log) (drop (items_taken n log) acts)
+    else Boot n boot ∷ items_after n boot 0 acts
 
 -- what is pending at node n, Losts apart
 abbrev pub pending_own : {B : Type 0} → World B → ℕ → List (Entry B)
@@ -38,9 +37,9 @@ pending_own w n = filter (λ e. not (is_any_lost e)) (node_at w.nodes n).pending
 -- what is pending at a node that is up is what it owes, in this order, and Losts
 abbrev pub PendingIsOwed : (B : Type 0) → (B → B → Bool) → Type 0
 PendingIsOwed B same =
-    (members : ℕ) (events : List (Event B)) (n : ℕ) → (node_at (played same members events).nodes n).up ≡ true →
+    (members : ℕ) → members ≤ 7 → (events : List (Event B)) (n : ℕ) → (node_at (played same members events).nodes n).up ≡ true →
     pending_own (played same members events) n
-    ≡ owed n (node_at (played same members events).nodes n)
+    ≡ owed n (log_of (played same members events) n) (node_at (played same members events).nodes n).rows.boot
     (acts_of n (node_at (played same members events).nodes n).rows.boot (played same members events).made)
 
 -- a node has taken the acts of its boot, and counts them
@@ -51,14 +50,14 @@ TakenAreCounted B same =
     ≡ (node_at (played same members events).nodes n).taken
 
 -- a Lost that is pending names another node, and a boot that is live by the log
-pub record NamesLive {B : Type 0} (n : ℕ) (x : NodeState B) (k b : ℕ) : Type 0 where
+pub record NamesLive {B : Type 0} (n : ℕ) (log : List (Entry B)) (k b : ℕ) : Type 0 where
   pub other : k ≡ n → ⊥
-  pub live : is_the (live_boot k x.applied) b ≡ true
+  pub live : is_the (live_boot k log) b ≡ true
 
 abbrev pub PendingLostsAreLive : (B : Type 0) → (B → B → Bool) → Type 0
 PendingLostsAreLive B same =
-    (members : ℕ) (events : List (Event B)) (n k b : ℕ) → Has (node_at (played same members events).nodes n).pending (Lost k b) →
-    NamesLive n (node_at (played same members events).nodes n) k b
+    (members : ℕ) → members ≤ 7 → (events : List (Event B)) (n k b : ℕ) → Has (node_at (played same members events).nodes n).pending (Lost k b) →
+    NamesLive n (log_of (played same members events) n) k b
 
 -- no more than this many are pending
 abbrev pub PendingIsFew : (B : Type 0) → (B → B → Bool) → Type 0

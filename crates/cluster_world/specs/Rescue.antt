@@ -4,6 +4,7 @@ use Rattle.std.specs.Prelude.{Result, Err, IsOkUnless, List, ◌∷◌, [], ◌+
 use Rattle.std.specs.List.{list_any}
 use Rattle.paxos_packets.specs.Members.{is_majority}
 use Rattle.paxos_packets.specs.Rows.{last_boot}
+use Rattle.paxos_packets.specs.Snapshot.{floor_in}
 use Rattle.paxos_packets.specs.declared.entry.Entry.{Entry}
 use Rattle.paxos_packets.specs.declared.entry.Entry.TheVariants.{Item}
 use Rattle.paxos_proposer.specs.Proposer.{round_of}
@@ -51,7 +52,10 @@ unfoldable pub last_rescue_slot : ℕ
 last_rescue_slot = 1099511623679
 
 abbrev pub is_crowded : {B : Type 0} → NodeState B → Bool
-is_crowded x = x.up && (nat_lt last_rescue_round (round_held x) || list_any (λ v. nat_lt last_rescue_slot v.slot) x.rows.votes)
+is_crowded x =
+    x.up
+    && (nat_lt last_rescue_round (round_held x)
+    || (list_any (λ v. nat_lt last_rescue_slot v.slot) x.rows.votes || nat_lt 0 (floor_in x.rows.snapshot)))
 
 abbrev pub any_member : ℕ → (ℕ → Bool) → Bool
 any_member zero test = false

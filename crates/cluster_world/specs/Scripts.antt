@@ -5,7 +5,9 @@ use Rattle.paxos_packets.specs.Members.{is_member, is_in}
 use Rattle.paxos_packets.specs.declared.packet.Packet.{Packet}
 use Rattle.paxos_node.specs.declared.event.Event.{Event}
 use Rattle.paxos_node.specs.declared.event.Event.TheVariants.{Deliver}
-use Rattle.cluster_world.specs.World.{World, first_world, next, played}
+use Rattle.replica_machine.specs.Replay.{Machine}
+use Rattle.cluster_world.specs.Saving.{next_of, played_of}
+use Rattle.cluster_world.specs.World.{World, first_world, next}
 
 -- a line of a script: an event; the delivery of the packet with this number in the list ever sent, from 1; or the delivery of each
 -- packet that no line has delivered and whose both ends are members in the set, lowest number first, those that come meanwhile too
@@ -23,8 +25,10 @@ pub record Stage (B : Type 0) : Type 0 where
 abbrev pub first_stage : {B : Type 0} → ℕ → Stage B
 first_stage members = record { world = first_world members; events = []; delivered = [] }
 
-abbrev pub happen : {B : Type 0} → (B → B → Bool) → ℕ → Event B → Stage B → Stage B
-happen same members e s = record { world = next same members s.world e; events = s.events ++ e ∷ []; delivered = s.delivered }
+-- a Cut has what the node's machine saves
+abbrev pub happen : {B S Y : Type 0} → (S → List ℕ) → Machine B S Y → (B → B → Bool) → ℕ → Event B → Stage B → Stage B
+happen saved m same members e s =
+    record { world = next_of saved m same members s.world e; events = s.events ++ e ∷ []; delivered = s.delivered }
 
 -- the packet reaches its addressee; so it counts as delivered, also if that is down
 abbrev pub deliver : {B : Type 0} → (B → B → Bool) → ℕ → ℕ → Packet B → Stage B → Stage B
@@ -68,19 +72,20 @@ most_deliveries = 100000
 
 -- ---- lines
 
-abbrev pub take_line : {B : Type 0} → (B → B → Bool) → ℕ → Stage B → Line B → Stage B
-take_line same members s (Happens e) = happen same members e s
-take_line same members s (Packet_no number) = deliver_no same members number (slice_get s.world.sent (number - 1)) s
-take_line same members s (Flush among) = flush same members among most_deliveries s
+abbrev pub take_line : {B S Y : Type 0} → (S → List ℕ) → Machine B S Y → (B → B → Bool) → ℕ → Stage B → Line B → Stage B
+take_line saved m same members s (Happens e) = happen saved m same members e s
+take_line saved m same members s (Packet_no number) = deliver_no same members number (slice_get s.world.sent (number - 1)) s
+take_line saved m same members s (Flush among) = flush same members among most_deliveries s
 
 -- the stage after these lines
-abbrev pub stage_behind : {B : Type 0} → (B → B → Bool) → ℕ → List (Line B) → Stage B → Stage B
-stage_behind same members lines s = fold (take_line same members) s lines
+abbrev pub stage_behind : {B S Y : Type 0} → (S → List ℕ) → Machine B S Y → (B → B → Bool) → ℕ → List (Line B) → Stage B → Stage B
+stage_behind saved m same members lines s = fold (take_line saved m same members) s lines
 
-abbrev pub run_script : {B : Type 0} → (B → B → Bool) → ℕ → List (Line B) → Stage B
-run_script same members lines = stage_behind same members lines (first_stage members)
+abbrev pub run_script : {B S Y : Type 0} → (S → List ℕ) → Machine B S Y → (B → B → Bool) → ℕ → List (Line B) → Stage B
+run_script saved m same members lines = stage_behind saved m same members lines (first_stage members)
 
 -- ---- a script's world is the one that its events lead to, each flush written out
-abbrev pub ScriptsArePlayed : (B : Type 0) → (B → B → Bool) → Type 0
-ScriptsArePlayed B same =
-    (members : ℕ) (lines : List (Line B)) → (run_script same members lines).world ≡ played same members (run_script same members lines).events
+abbrev pub ScriptsArePlayed : (B : Type 0) → (B → B → Bool) → Type 0 → Type 0 → Type 0
+ScriptsArePlayed B same S Y =
+    (saved : S → List ℕ) (m : Machine B S Y) (members : ℕ) (lines : List (Line B)) →
+    (run_script saved m same members lines).world ≡ played_of saved m same members (run_script saved m same members lines).events

@@ -29,7 +29,7 @@ pub enum RescueFault {
     /// The node is down, or not a member.
     #[error("the node is down")]
     NodeDown,
-    /// A node that is up holds a round above 2^48 - 8, or a vote in a slot above 2^40 - 4,097.
+    /// A node that is up holds a round above 2^48 - 8, or a vote in a slot above 2^40 - 4,097, or rests on a snapshot.
     #[error("a round or a slot of a node that is up is too great")]
     NoRoom,
     /// Memory ran out for the events.

@@ -4,11 +4,15 @@ ghost use Rattle.cluster_world.specs.AtOnce.{AppliesAsAtOnce};
 ghost use Rattle.cluster_world.specs.Origins.{ItemsWereTaken, BootsWereHad, LostsWereSuspected, LogsAreGiven};
 ghost use Rattle.replica_machine.specs.Laws.{ItemsAreNumbered};
 ghost use Rattle.std.specs.Prelude.{◌≡◌, true, false, [], ◌∷◌};
-ghost use Rattle.paxos_packets.specs.declared.entry.Entry.TheVariants.{Boot};
+ghost use Rattle.paxos_packets.specs.declared.entry.Entry.TheVariants.{Boot, Lost};
 ghost use Rattle.replica_machine.specs.Effects.{effects};
 ghost use Rattle.cluster_world.specs.Examples.{run, one_session, leader_crash, hung_before_boot, asked_in_vain};
 ghost use Rattle.cluster_world.specs.Examples.{asked_again, lost_node, duel, session_log, after_crash_log, hung_log};
 ghost use Rattle.cluster_world.specs.Examples.{lost_log, duel_log, crash_packets, logs, ups, sums_handed};
+ghost use Rattle.cluster_world.specs.CutExamples.{shown, up_at, item};
+ghost use Rattle.cluster_world.specs.CutExamples.{long_down, raised_next, cut_before_majority, own_boot, own_boot_left, two_floors};
+ghost use Rattle.cluster_world.specs.CutExamples.{two_floors_asked, accept_below, overtaken, lost_above, lost_dropped, at_the_floor};
+ghost use Rattle.cluster_world.specs.CutLogs.{CutsAreLogs, NodesRestOnLogs, PacketsBringLogs, NodesStandByLogs};
 ghost use Rattle.cluster_world.specs.Owed.{PendingIsOwed, TakenAreCounted, PendingLostsAreLive, PendingIsFew, DownIsRows};
 ghost use Rattle.cluster_world.specs.Proposers.{RoundsWereSent, ProposalsFollow};
 ghost use Rattle.cluster_world.specs.Majorities.{MajoritiesHold, NewBallotsAreFresh};
@@ -67,7 +71,8 @@ pub fn nothing_waits<B: Body>()
 {}
 
 /// Answers, for every machine: while a node is up, each transport of its present boot was handed what the machine says to it along the
-/// node's log. Once an event takes the node down, that stays as it is then, with the slot of a Lost of its own boot.
+/// node's log, if that says nothing to it before the boot begins there. Once an event takes the node down, that stays as it is then, with
+/// the slot of a Lost of its own boot. Of at most seven members: a snapshot tells where nodes 1 to 7 stand.
 pub fn answers<B: Body, S, Y>()
     ensures said { HandedIsSaid B B.same S Y }
     ensures stays { HandedStays B B.same S Y }
@@ -93,6 +98,16 @@ pub fn at_most_once<B: Body>()
     ensures taken { ItemsWereTaken B B.same }
     ensures boots { BootsWereHad B B.same }
     ensures losses { LostsWereSuspected B B.same }
+{}
+
+/// What was cut stands for the log that it was made from: each snapshot is as long as its log, whose entries are chosen in their slots, and
+/// its head tells where the nodes stand after it. Each snapshot that a node has, or that a packet brings, was cut. So a node that is up
+/// stands where its whole log says, and knows how long that is.
+pub fn cuts_are_logs<B: Body>()
+    ensures cuts { CutsAreLogs B B.same }
+    ensures nodes { NodesRestOnLogs B B.same }
+    ensures packets { PacketsBringLogs B B.same }
+    ensures stands { NodesStandByLogs B B.same }
 {}
 
 /// Each entry of a log names a node from 1 to 7 and a boot from 1 to 2^48 - 1, and an Item a number of that range and a transport from 1. So
@@ -123,8 +138,9 @@ pub fn proposals_follow<B: Body>()
     ensures { ProposalsFollow B B.same }
 {}
 
-/// What is chosen is not lost: in each majority some member has a vote for it in its slot, and each vote that a node has there in that
-/// ballot or a higher one is for it, too. So of the votes that a majority has in the slot the highest is for what is chosen.
+/// What is chosen is not lost: in each majority whose members' floors are below its slot some member has a vote for it there, and each vote
+/// that a node has there in that ballot or a higher one is for it, too. So of the votes that a majority has in the slot the highest is for
+/// what is chosen.
 pub fn majorities_hold<B: Body>()
     ensures { MajoritiesHold B B.same }
 {}
@@ -147,9 +163,9 @@ pub fn rescues_have_room<B: Body>()
     ensures { RescuesHaveRoom B B.same }
 {}
 
-/// A script, line by line, leads to the world of its events, with each flush written out as its deliveries.
-pub fn scripts<B: Body>()
-    ensures { ScriptsArePlayed B B.same }
+/// A script, line by line, leads to the world of its events, with each flush written out as its deliveries; a Cut has what the machine saves.
+pub fn scripts<B: Body, S, Y>()
+    ensures { ScriptsArePlayed B B.same S Y }
 {}
 
 /// Runs by hand, computed: for each the logs of all nodes, and which are up.
@@ -179,4 +195,33 @@ pub fn examples()
 
     // two nodes want to lead
     ensures duel { logs (run 3 duel) 3 ≡ duel_log ∷ duel_log ∷ duel_log ∷ [] }
+{}
+
+/// Runs by hand in which nodes cut and take snapshots, computed.
+pub fn cut_examples()
+    ensures long_down_1 { shown (run 3 long_down) 1 ≡ up_at 2 (Boot 2 1 ∷ Boot 3 2 ∷ []) }
+    ensures long_down_2 { shown (run 3 long_down) 2 ≡ up_at 2 (Boot 2 1 ∷ Boot 3 2 ∷ []) }
+    ensures long_down_3 { shown (run 3 long_down) 3 ≡ up_at 2 (Boot 2 1 ∷ Boot 3 2 ∷ []) }
+    ensures raised_next_1 { shown (run 3 raised_next) 1 ≡ up_at 2 (Boot 1 1 ∷ item 1 1 ∷ Boot 2 1 ∷ []) }
+    ensures cut_before_majority_1 { shown (run 3 cut_before_majority) 1 ≡ up_at 1 (item 1 1 ∷ []) }
+    ensures cut_before_majority_2 { shown (run 3 cut_before_majority) 2 ≡ up_at 0 (Boot 1 1 ∷ item 1 1 ∷ []) }
+    ensures cut_before_majority_3 { shown (run 3 cut_before_majority) 3 ≡ up_at 0 (Boot 1 1 ∷ item 1 1 ∷ []) }
+    ensures own_boot_1 { shown (run 3 own_boot) 1 ≡ up_at 3 [] }
+    ensures own_boot_3 { shown (run 3 own_boot) 3 ≡ up_at 0 (Boot 1 1 ∷ Boot 3 1 ∷ []) }
+    ensures own_boot_left_3 { shown (run 3 own_boot_left) 3 ≡ up_at 3 [] }
+    ensures two_floors_2 { shown (run 5 two_floors) 2 ≡ up_at 2 (item 1 2 ∷ Boot 5 1 ∷ []) }
+    ensures two_floors_3 { shown (run 5 two_floors) 3 ≡ up_at 3 (Boot 5 1 ∷ []) }
+    ensures two_floors_5 { shown (run 5 two_floors) 5 ≡ up_at 0 [] }
+    ensures two_floors_asked_5 { shown (run 5 two_floors_asked) 5 ≡ up_at 2 (item 1 2 ∷ Boot 5 1 ∷ []) }
+    ensures accept_below_1 { shown (run 3 accept_below) 1 ≡ up_at 0 (Boot 1 1 ∷ item 1 1 ∷ Boot 3 1 ∷ []) }
+    ensures accept_below_2 { shown (run 3 accept_below) 2 ≡ up_at 2 (Boot 3 1 ∷ []) }
+    ensures accept_below_3 { shown (run 3 accept_below) 3 ≡ up_at 2 (Boot 3 1 ∷ []) }
+    ensures overtaken_1 { shown (run 3 overtaken) 1 ≡ up_at 1 (item 1 1 ∷ []) }
+    ensures overtaken_2 { shown (run 3 overtaken) 2 ≡ up_at 2 [] }
+    ensures overtaken_3 { shown (run 3 overtaken) 3 ≡ up_at 2 [] }
+    ensures lost_above_1 { shown (run 3 lost_above) 1 ≡ up_at 1 (Boot 3 2 ∷ Lost 3 2 ∷ []) }
+    ensures lost_dropped_1 { shown (run 3 lost_dropped) 1 ≡ up_at 3 (Boot 2 1 ∷ []) }
+    ensures lost_dropped_2 { shown (run 3 lost_dropped) 2 ≡ up_at 3 (Boot 2 1 ∷ []) }
+    ensures at_the_floor_2 { shown (run 3 at_the_floor) 2 ≡ up_at 1 (item 1 1 ∷ []) }
+    ensures lost_above_3 { (shown (run 3 lost_above) 3).up ≡ false }
 {}

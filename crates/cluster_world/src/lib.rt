@@ -2,7 +2,9 @@
 //! Simple, 2001, section 2; docs/CONSENSUS.md, "The world" and "What holds over every list of events").
 #![tactic(auto)]
 
+mod cutting;
 mod fault;
+mod going_on;
 mod handings;
 pub mod laws;
 mod member;

@@ -1,28 +1,35 @@
 //! One member of a world: its node, and the machine that stands where the node stands.
 
-ghost use Rattle.std.specs.Prelude.{◌≡◌, suc, ◌≤◌, ◌<◌, ◌+◌, ◌^◌, ◌++◌, [], ◌∷◌, List, length, true, false, Some, IfOk, OnOk, OnErr, vec_len, vec_capacity, option_copied, is_some, IfSome};
+ghost use Rattle.std.specs.Prelude.{◌≡◌, suc, ◌≤◌, ◌<◌, ◌+◌, ◌^◌, ◌++◌, [], ◌∷◌, List, length, true, false, Option, Some, None, ℕ, IfOk, OnOk, OnErr, vec_len, vec_capacity, option_copied, is_some, IfSome};
 ghost use Rattle.paxos_packets.specs.declared.entry.Entry as log_entries;
 ghost use Rattle.paxos_packets.specs.declared.entry.Entry.TheVariants.{Boot};
 ghost use Rattle.paxos_packets.specs.declared.transport.Transport as transports;
 ghost use Rattle.paxos_packets.specs.Rows.{last_boot, raised, first_rows};
-ghost use Rattle.paxos_node.specs.Adopting.{adopted, Fits, Planned};
-ghost use Rattle.paxos_node.specs.Applying.{down, started};
-ghost use Rattle.paxos_node.specs.Events.{owner, possible, outcome_of, made_by};
-ghost use Rattle.paxos_node.specs.Plans.{is_planned, plans};
+ghost use Rattle.paxos_packets.specs.Snapshot.{Snapshot, floor_in};
+ghost use Rattle.paxos_node.specs.declared.event.Event.TheVariants.{Cut, Restart};
+ghost use Rattle.paxos_node.specs.Adopting.{adopted, Fits};
+ghost use Rattle.paxos_node.specs.Applying.{base, down, started};
+ghost use Rattle.paxos_node.specs.Events.{owner, outcome_of, made_by};
+ghost use Rattle.paxos_node.specs.Plans.{plans};
 ghost use Rattle.paxos_planning.specs.Drafting.{listed};
+ghost use Rattle.paxos_planning.specs.Node.{told_length};
 ghost use Rattle.replica_machine.specs.Given.{AreGiven};
 ghost use Rattle.replica_machine.specs.Log.{machine_from, length_in, IsLogOf};
+ghost use Rattle.replica_machine.specs.Roll.{HasStandings};
 ghost use Rattle.replica_machine.specs.Snapshot.{kept_of, loaded_log};
 ghost use Rattle.replica_follower.specs.Following.{handed_to, Follows};
 ghost use Rattle.replica_follower.specs.Handed.{said_in, tellings, TellAll};
 ghost use Rattle.world_nodes.specs.Nodes.{node_of, HasRoomIn, IsAtRest};
-ghost use Rattle.cluster_world.specs.Members.{Moves, Unmoved, Happens, Rests, IsInBoot, IsGivenUp};
-ghost use Rattle.cluster_world.specs.StandsAt.{HasLog, LoadsFirst};
+ghost use Rattle.cluster_world.specs.Members.{Unmoved, Goes, Rests, GoesOn, TakesOver, RestartsAt, StaysThere, IsGivenUp};
+ghost use Rattle.cluster_world.specs.MemberSnapshots.{octets_at, own_cut, its_event, may_happen, is_carried, base_of, above_of, Brings, Cuts, LoadsSaved, StillFollows};
+ghost use Rattle.cluster_world.specs.StandsAt.{HasLog};
 
-use paxos_node::{Event, Node, Outcome};
+use crate::cutting::cut;
+use crate::going_on::{go_on, octets_at};
+use paxos_node::{Event, Node, Outcome, roll_at};
 use paxos_packets::{Body, Entry, Members, Memory, Transport};
 use replica_follower::{Follower, Tellings};
-use replica_machine::{Machine, SaveFault};
+use replica_machine::{Machine, Roll, SaveFault};
 use std::alloc::Global;
 use std::marker::Model;
 use world_nodes::WorldNode;
@@ -97,7 +104,7 @@ impl<M: Machine> Member<M> {
         self.node.running()
     }
 
-    /// Returns its node's log. Does not allocate.
+    /// Returns the entries of its node's log above the floor. Does not allocate.
     pub fn log(&self) -> &[Entry<M::Body>]
         requires up { HasLog self.now.node self.now.machine }
         requires down { self.now.node.up ≡ false → self.now.node.applied ≡ [] }
@@ -107,6 +114,24 @@ impl<M: Machine> Member<M> {
             return &[];
         }
         self.follower.log()
+    }
+
+    /// Returns the floor of its node's log: how many of its entries the node's snapshot stands for. Does not allocate.
+    pub fn floor(&self) -> u64
+        ensures value { result ≡ floor_in self.now.node.rows.snapshot }
+        ensures within { result < 2 ^ 40 }
+    {
+        match self.node.snapshot() {
+            Some(snapshot) => snapshot.floor().get(),
+            None => 0,
+        }
+    }
+
+    /// Returns where each node stands at the floor of its node's log. Does not allocate.
+    pub fn standings(&self) -> Roll
+        ensures { HasStandings (base self.now.node.rows) result }
+    {
+        roll_at(self.node.snapshot())
     }
 
     /// Returns the octets of its machine's log, as `AppliedLog::save` does.
@@ -138,10 +163,11 @@ impl<M: Machine> Member<M> {
         self.follower.handed()
     }
 
-    /// Returns whether the event is possible at its node. Does not allocate.
+    /// Returns whether the event may happen at its node; whether a cut does, which its node plans by what its machine saves, only `happen`
+    /// knows. Does not allocate.
     #[tactic(auto, unfolding(paxos_packets::specs::Rows::last_boot))]
     pub fn may(&self, event: &Event<M::Body>) -> bool
-        ensures { result ≡ possible event.now self.now.node }
+        ensures { result ≡ may_happen event.now self.now.node }
     {
         match event {
             Event::Take { transport, .. } => self.node.is_up() && 0 < *transport,
@@ -149,9 +175,17 @@ impl<M: Machine> Member<M> {
             Event::Start { .. } => self.node.is_up(),
             Event::Suspect { .. } => self.node.is_up(),
             Event::Deliver { .. } => self.node.is_up(),
+            Event::Cut { .. } => self.node.is_up(),
             Event::Crash { .. } => self.node.is_up(),
             Event::Restart { .. } => !self.node.is_up() && self.node.boot() < LAST_BOOT,
         }
+    }
+
+    // Its node's log has fewer entries than there are slots.
+    fn fits_slots(&self)
+        ensures { told_length self.now.node < 2 ^ 40 }
+    {
+        let _ = self.node.applied();
     }
 
     // Takes its node down.
@@ -164,7 +198,8 @@ impl<M: Machine> Member<M> {
         self.node.crash();
     }
 
-    // Starts its node, which is down, in the next boot, and makes its machine anew from the octets of a log. On `Memory` the node is as it was.
+    // Starts its node, which is down, in the next boot, and makes its machine anew from the octets of its node's snapshot, or from these
+    // without one. On `Memory` the node is as it was.
     fn restart(&mut self, octets: &[u8], made: &mut Vec<Entry<M::Body>>) -> Result<(), Memory>
         requires down { self.old.node.up ≡ false }
         requires boots { self.old.node.rows.boot < last_boot }
@@ -175,16 +210,19 @@ impl<M: Machine> Member<M> {
         ensures made { OnOk result (made.new.items ≡ made.old.items ++ Boot self.old.me (suc self.old.node.rows.boot) ∷ []) }
         ensures log { OnOk result (self.new.machine.log.applied ≡ []) }
         ensures told { self.new.machine.told ≡ self.old.machine.told }
-        ensures follows { (first : M.Content) → LoadsFirst M.loaded first octets.now
-            → Follows M.content (machine_from M.steps first) [] self.old.machine
-            → Follows M.content (machine_from M.steps first) [] self.new.machine }
+        ensures follows { (first : M.Content) (under : List (log_entries.Entry M.Body))
+            → RestartsAt M.loaded (machine_from M.steps first) octets.now under self.old
+            → Follows M.content (machine_from M.steps first) under self.old.machine
+            → Follows M.content (machine_from M.steps first) under self.new.machine }
+        ensures renewed { OnOk result (self.new.machine.given_up ≡ true →
+            loaded_log M.loaded (octets_at octets.now self.old.node.rows.snapshot) ≡ None) }
         ensures err_node { OnErr result (self.new.node ≡ self.old.node) }
         ensures err_made { OnErr result (made.new.items ≡ made.old.items) }
     {
         let Ok(()) = made.reserve(1) else {
             return Err(Memory);
         };
-        self.follower.renew(octets)?;
+        self.follower.renew(octets_at(&self.node, octets))?;
         self.node.restart()?;
         made.push_reserved(Entry::Boot {
             node: self.me,
@@ -195,36 +233,67 @@ impl<M: Machine> Member<M> {
 }
 
 impl<M: Machine> Member<M> {
-    // Does the event at its node, which is up, and lets its machine go on with it.
+    // Does the event, which is no cut, at its node, which is up, and lets its machine go on with it.
     fn do_event(
         &mut self,
         sent: &mut SentPackets<M::Body>,
         made: &mut Vec<Entry<M::Body>>,
         event: &Event<M::Body>,
     ) -> Result<(), Memory>
-        requires planned { is_planned event.now ≡ true }
+        requires carried { is_carried event.now ≡ true }
         requires own { owner event.now ≡ self.old.me }
-        requires possible { possible event.now self.old.node ≡ true }
+        requires may { may_happen event.now self.old.node ≡ true }
         requires rests { IsAtRest self.old.node }
-        requires agrees { (outcome_of M.Body.same self.old.members event.now self.old.node).disagrees ≡ false }
+        requires agrees { is_carried event.now ≡ true → (outcome_of M.Body.same self.old.members event.now self.old.node).disagrees ≡ false }
         requires log { HasLog self.old.node self.old.machine }
         ensures me { self.new.me ≡ self.old.me }
         ensures members { self.new.members ≡ self.old.members }
         ensures machine { self.new.machine.node ≡ self.old.machine.node }
-        ensures ok { OnOk result (Moves M.Body.same event.now self.old self.new sent.old.packets sent.new.packets made.old.items made.new.items) }
+        ensures ok { OnOk result (Goes M.Body.same (its_event M.saved M.content self.old.machine event.now) self.old self.new
+            sent.old.packets sent.new.packets made.old.items made.new.items) }
         ensures err { OnErr result (Unmoved self.old self.new sent.old.packets sent.new.packets made.old.items made.new.items) }
-        ensures given_up { self.old.machine.given_up ≡ true → IsInBoot self.old.node self.new.node →
+        ensures given_up { self.old.machine.given_up ≡ true → StaysThere self.old.node self.new.node →
             IsGivenUp self.old.machine.log.applied self.new.machine }
-        ensures happens { (first : M.Content) → Follows M.content (machine_from M.steps first) [] self.old.machine →
-            OnOk result (Happens M.Body.same M.content (machine_from M.steps first) event.now self.old self.new) }
-        ensures rests { (first : M.Content) → Follows M.content (machine_from M.steps first) [] self.old.machine →
-            OnErr result (Rests M.content (machine_from M.steps first) self.old self.new) }
+        ensures happens { (first : M.Content) (under over : List (log_entries.Entry M.Body)) →
+            TakesOver M.Body.same M.loaded (machine_from M.steps first) event.now over self.old →
+            Follows M.content (machine_from M.steps first) under self.old.machine →
+            OnOk result (GoesOn M.Body.same M.content (machine_from M.steps first) (its_event M.saved M.content self.old.machine event.now)
+            under over self.old self.new) }
+        ensures rests { (first : M.Content) (under : List (log_entries.Entry M.Body)) →
+            Follows M.content (machine_from M.steps first) under self.old.machine →
+            OnErr result (Rests M.content (machine_from M.steps first) under self.old self.new) }
     {
         do_event_at(&mut self.node, &mut self.follower, sent, made, event)
     }
 
-    /// Does the event, which is this member's and possible: whole or not at all. A restart makes the machine anew from the octets of a log;
-    /// if memory runs out then, the machine of the node, which is still down, may be a new one.
+    // Lets its node, which is up, rest on what its machine saves.
+    fn cut(&mut self) -> Result<(), Memory>
+        requires up { self.old.node.up ≡ true }
+        requires rests { IsAtRest self.old.node }
+        requires log { HasLog self.old.node self.old.machine }
+        ensures me { self.new.me ≡ self.old.me }
+        ensures members { self.new.members ≡ self.old.members }
+        ensures machine { self.new.machine.node ≡ self.old.machine.node }
+        ensures alive { OnOk result (self.old.machine.given_up ≡ false) }
+        ensures ok { OnOk result (Cuts M.Body.same self.old.me self.old.members (own_cut M.saved M.content self.old.machine.log)
+            self.old.node self.new.node self.old.machine self.new.machine) }
+        ensures follows { (first : M.Content) (under : List (log_entries.Entry M.Body))
+            → Follows M.content (machine_from M.steps first) under self.old.machine
+            → OnOk result (StillFollows M.content (machine_from M.steps first) (own_cut M.saved M.content self.old.machine.log) under
+            self.old.node self.new.machine) }
+        ensures loads { (first : M.Content) (under : List (log_entries.Entry M.Body))
+            → Follows M.content (machine_from M.steps first) under self.old.machine
+            → AreGiven (under ++ self.old.node.applied) → length (under ++ self.old.node.applied) < 2 ^ 40
+            → OnOk result (LoadsSaved M.saved M.loaded (machine_from M.steps first) (under ++ self.old.node.applied)) }
+        ensures err_node { OnErr result (self.new.node ≡ self.old.node) }
+        ensures err_machine { OnErr result (self.new.machine ≡ self.old.machine) }
+    {
+        cut(&mut self.node, &mut self.follower)
+    }
+
+    /// Does the event, which is this member's and may happen: whole or not at all. A cut has what the machine's log is saved as, whatever it
+    /// carries; nothing happens if its node has nothing to cut. A restart makes the machine anew from the octets of the node's snapshot, or
+    /// from these without one; if memory runs out then, the machine of the node, which is still down, may be a new one.
     pub fn happen(
         &mut self,
         octets: &[u8],
@@ -233,30 +302,46 @@ impl<M: Machine> Member<M> {
         event: &Event<M::Body>,
     ) -> Result<(), Memory>
         requires own { owner event.now ≡ self.old.me }
-        requires possible { possible event.now self.old.node ≡ true }
+        requires may { may_happen event.now self.old.node ≡ true }
         requires rests { IsAtRest self.old.node }
-        requires agrees { (outcome_of M.Body.same self.old.members event.now self.old.node).disagrees ≡ false }
+        requires agrees { is_carried event.now ≡ true → (outcome_of M.Body.same self.old.members event.now self.old.node).disagrees ≡ false }
         requires log { HasLog self.old.node self.old.machine }
         ensures me { self.new.me ≡ self.old.me }
         ensures members { self.new.members ≡ self.old.members }
         ensures machine { self.new.machine.node ≡ self.old.machine.node }
-        ensures ok { OnOk result (Moves M.Body.same event.now self.old self.new sent.old.packets sent.new.packets made.old.items made.new.items) }
+        ensures ok { OnOk result (Goes M.Body.same (its_event M.saved M.content self.old.machine event.now) self.old self.new
+            sent.old.packets sent.new.packets made.old.items made.new.items) }
+        ensures alive { OnOk result ((node : ℕ) (snapshot : Option Snapshot) → event.now ≡ Cut node snapshot → self.old.machine.given_up ≡ false) }
+        ensures within { told_length self.old.node < 2 ^ 40 }
+        ensures loads { (first : M.Content) (under : List (log_entries.Entry M.Body)) →
+            Follows M.content (machine_from M.steps first) under self.old.machine →
+            AreGiven (under ++ self.old.node.applied) → length (under ++ self.old.node.applied) < 2 ^ 40 →
+            OnOk result ((node : ℕ) (snapshot : Option Snapshot) → event.now ≡ Cut node snapshot →
+            LoadsSaved M.saved M.loaded (machine_from M.steps first) (under ++ self.old.node.applied)) }
         ensures err { OnErr result (Unmoved self.old self.new sent.old.packets sent.new.packets made.old.items made.new.items) }
-        ensures given_up { self.old.machine.given_up ≡ true → IsInBoot self.old.node self.new.node →
+        ensures given_up { self.old.machine.given_up ≡ true → StaysThere self.old.node self.new.node →
             IsGivenUp self.old.machine.log.applied self.new.machine }
-        ensures happens { (first : M.Content) → LoadsFirst M.loaded first octets.now →
-            Follows M.content (machine_from M.steps first) [] self.old.machine →
-            OnOk result (Happens M.Body.same M.content (machine_from M.steps first) event.now self.old self.new) }
-        ensures rests { (first : M.Content) → LoadsFirst M.loaded first octets.now →
-            Follows M.content (machine_from M.steps first) [] self.old.machine →
-            OnErr result (Rests M.content (machine_from M.steps first) self.old self.new) }
+        ensures renewed { OnOk result ((node : ℕ) → event.now ≡ Restart node → self.new.machine.given_up ≡ true →
+            loaded_log M.loaded (octets_at octets.now self.old.node.rows.snapshot) ≡ None) }
+        ensures happens { (first : M.Content) (under over : List (log_entries.Entry M.Body)) →
+            RestartsAt M.loaded (machine_from M.steps first) octets.now under self.old →
+            TakesOver M.Body.same M.loaded (machine_from M.steps first) event.now over self.old →
+            Follows M.content (machine_from M.steps first) under self.old.machine →
+            OnOk result (GoesOn M.Body.same M.content (machine_from M.steps first) (its_event M.saved M.content self.old.machine event.now)
+            under over self.old self.new) }
+        ensures rests { (first : M.Content) (under : List (log_entries.Entry M.Body)) →
+            RestartsAt M.loaded (machine_from M.steps first) octets.now under self.old →
+            Follows M.content (machine_from M.steps first) under self.old.machine →
+            OnErr result (Rests M.content (machine_from M.steps first) under self.old self.new) }
     {
+        self.fits_slots();
         match event {
             Event::Crash { .. } => {
                 self.crash();
                 Ok(())
             }
             Event::Restart { .. } => self.restart(octets, made),
+            Event::Cut { .. } => self.cut(),
             Event::Take { .. } => self.do_event(sent, made, event),
             Event::Tick { .. } => self.do_event(sent, made, event),
             Event::Start { .. } => self.do_event(sent, made, event),
@@ -357,21 +442,30 @@ fn carry_out<M: Machine>(
     ensures node { OnOk result (node_of node.new ≡ adopted node.old.me node.old.members outcome (node_of node.old)) }
     ensures packets { OnOk result (sent.new.packets ≡ sent.old.packets ++ outcome.packets) }
     ensures made { OnOk result (made.new.items ≡ made.old.items ++ listed outcome.moves.added) }
-    ensures log { OnOk result (follower.new.log.applied ≡ (node_of node.old).applied ++ outcome.applied) }
+    ensures log { OnOk result (follower.new.log.applied ≡ above_of outcome.change.snapshot (node_of node.old).applied ++ outcome.applied) }
     ensures err_node { OnErr result (node_of node.new ≡ node_of node.old) }
     ensures err_packets { OnErr result (sent.new.packets ≡ sent.old.packets) }
     ensures err_made { OnErr result (made.new.items ≡ made.old.items) }
     ensures err_log { OnErr result (follower.new.log.applied ≡ follower.old.log.applied) }
-    ensures given_up { follower.old.given_up ≡ true → IsGivenUp follower.old.log.applied follower.new }
-    ensures follows { (first : M.Content) → Follows M.content (machine_from M.steps first) [] follower.old →
-        Follows M.content (machine_from M.steps first) [] follower.new }
-    ensures handed { (first : M.Content) → Follows M.content (machine_from M.steps first) [] follower.old →
-        OnOk result ((t : transports.Transport) → said_in t follower.new.told ≡ said_in t follower.old.told
-        ++ handed_to (machine_from M.steps first) t follower.old.node (node_of node.old).rows.boot (node_of node.old).applied outcome.applied) }
+    ensures given_up { outcome.change.snapshot ≡ None → follower.old.given_up ≡ true → IsGivenUp follower.old.log.applied follower.new }
+    ensures err_given_up { OnErr result (follower.old.given_up ≡ true → IsGivenUp follower.old.log.applied follower.new) }
+    ensures follows { (first : M.Content) (under over : List (log_entries.Entry M.Body))
+        → Follows M.content (machine_from M.steps first) under follower.old
+        → Brings M.loaded (machine_from M.steps first) over outcome.change.snapshot
+        → OnOk result (Follows M.content (machine_from M.steps first) (base_of outcome.change.snapshot under over) follower.new) }
+    ensures err_follows { (first : M.Content) (under : List (log_entries.Entry M.Body))
+        → Follows M.content (machine_from M.steps first) under follower.old
+        → OnErr result (Follows M.content (machine_from M.steps first) under follower.new) }
+    ensures handed { (first : M.Content) (under over : List (log_entries.Entry M.Body))
+        → Follows M.content (machine_from M.steps first) under follower.old
+        → Brings M.loaded (machine_from M.steps first) over outcome.change.snapshot
+        → OnOk result ((t : transports.Transport) → said_in t follower.new.told ≡ said_in t follower.old.told
+        ++ handed_to (machine_from M.steps first) t follower.old.node (node_of node.old).rows.boot
+        (base_of outcome.change.snapshot under over ++ above_of outcome.change.snapshot (node_of node.old).applied) outcome.applied) }
     ensures err_handed { OnErr result ((t : transports.Transport) → said_in t follower.new.told ≡ said_in t follower.old.told) }
 {
     let added = prepare(node, sent, made, &outcome)?;
-    follower.follow(node.boot(), outcome.applied.as_slice())?;
+    go_on(follower, node.boot(), &outcome)?;
     commit(node, sent, made, outcome, added);
     Ok(())
 }
@@ -395,19 +489,30 @@ fn do_event_at<M: Machine>(
     ensures packets { OnOk result
         (sent.new.packets ≡ sent.old.packets ++ (outcome_of M.Body.same node.old.members event.now (node_of node.old)).packets) }
     ensures made { OnOk result (made.new.items ≡ made.old.items ++ made_by M.Body.same event.now (node_of node.old)) }
-    ensures log { OnOk result (follower.new.log.applied
-        ≡ (node_of node.old).applied ++ (outcome_of M.Body.same node.old.members event.now (node_of node.old)).applied) }
+    ensures log { let o = outcome_of M.Body.same node.old.members event.now (node_of node.old) in
+        OnOk result (follower.new.log.applied ≡ above_of o.change.snapshot (node_of node.old).applied ++ o.applied) }
     ensures err_node { OnErr result (node_of node.new ≡ node_of node.old) }
     ensures err_packets { OnErr result (sent.new.packets ≡ sent.old.packets) }
     ensures err_made { OnErr result (made.new.items ≡ made.old.items) }
     ensures err_log { OnErr result (follower.new.log.applied ≡ follower.old.log.applied) }
-    ensures given_up { follower.old.given_up ≡ true → IsGivenUp follower.old.log.applied follower.new }
-    ensures follows { (first : M.Content) → Follows M.content (machine_from M.steps first) [] follower.old →
-        Follows M.content (machine_from M.steps first) [] follower.new }
-    ensures handed { (first : M.Content) → Follows M.content (machine_from M.steps first) [] follower.old →
-        OnOk result ((t : transports.Transport) → said_in t follower.new.told ≡ said_in t follower.old.told
-        ++ handed_to (machine_from M.steps first) t follower.old.node (node_of node.old).rows.boot (node_of node.old).applied
-        (outcome_of M.Body.same node.old.members event.now (node_of node.old)).applied) }
+    ensures given_up { (outcome_of M.Body.same node.old.members event.now (node_of node.old)).change.snapshot ≡ None →
+        follower.old.given_up ≡ true → IsGivenUp follower.old.log.applied follower.new }
+    ensures err_given_up { OnErr result (follower.old.given_up ≡ true → IsGivenUp follower.old.log.applied follower.new) }
+    ensures follows { let o = outcome_of M.Body.same node.old.members event.now (node_of node.old) in
+        (first : M.Content) (under over : List (log_entries.Entry M.Body))
+        → Follows M.content (machine_from M.steps first) under follower.old
+        → Brings M.loaded (machine_from M.steps first) over o.change.snapshot
+        → OnOk result (Follows M.content (machine_from M.steps first) (base_of o.change.snapshot under over) follower.new) }
+    ensures err_follows { (first : M.Content) (under : List (log_entries.Entry M.Body))
+        → Follows M.content (machine_from M.steps first) under follower.old
+        → OnErr result (Follows M.content (machine_from M.steps first) under follower.new) }
+    ensures handed { let o = outcome_of M.Body.same node.old.members event.now (node_of node.old) in
+        (first : M.Content) (under over : List (log_entries.Entry M.Body))
+        → Follows M.content (machine_from M.steps first) under follower.old
+        → Brings M.loaded (machine_from M.steps first) over o.change.snapshot
+        → OnOk result ((t : transports.Transport) → said_in t follower.new.told ≡ said_in t follower.old.told
+        ++ handed_to (machine_from M.steps first) t follower.old.node (node_of node.old).rows.boot
+        (base_of o.change.snapshot under over ++ above_of o.change.snapshot (node_of node.old).applied) o.applied) }
     ensures err_handed { OnErr result ((t : transports.Transport) → said_in t follower.new.told ≡ said_in t follower.old.told) }
 {
     match node.plan(event)? {

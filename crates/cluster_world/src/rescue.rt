@@ -7,6 +7,7 @@ ghost use Rattle.paxos_node.specs.declared.event.Event as occurred;
 ghost use Rattle.paxos_node.specs.Events.{last_number};
 ghost use Rattle.paxos_packets.specs.Members.{is_majority};
 ghost use Rattle.paxos_packets.specs.Rows.{last_boot};
+ghost use Rattle.paxos_packets.specs.Snapshot.{floor_in};
 ghost use Rattle.paxos_packets.specs.Vote.{IsAscending};
 ghost use Rattle.paxos_proposer.specs.Proposer.{round_of};
 ghost use Rattle.replica_machine.specs.Log.{machine_from};
@@ -16,7 +17,8 @@ ghost use Rattle.cluster_world.specs.Rescue.{rescue_refused, HasRoom, Refuses, M
 ghost use Rattle.cluster_world.specs.declared.fault.RescueFault.TheVariants as fault;
 ghost use Rattle.cluster_world.specs.StandsAt.{StandsAt};
 ghost use Rattle.cluster_world.specs.World as worlds;
-ghost use Rattle.cluster_world.specs.World.{node_at, played};
+ghost use Rattle.cluster_world.specs.Saving.{played_of};
+ghost use Rattle.cluster_world.specs.World.{node_at};
 ghost use Rattle.world_rescue.specs.Course.{act, seat_of, course};
 ghost use Rattle.world_rescue.specs.Parts.{crew_of};
 
@@ -41,9 +43,9 @@ impl<M: Machine> World<M> {
     /// has taken fewer than 2^48 - 1 acts in its boot, and its boot is below 2^48 - 1; no other premise is made.
     ///
     /// Returns `NoMajority` if no majority is up, `NodeDown` if the node is down or not a member, `NoRoom` if a node that is up holds a round
-    /// above 2^48 - 8 or a vote in a slot above 2^40 - 4,097, in this order, and `Memory` last, only if memory runs out: the events lack no
-    /// round and no slot then. Looks at what the nodes that are up have beyond this node's log; only if the node has to restart the log is
-    /// in the events.
+    /// above 2^48 - 8 or a vote in a slot above 2^40 - 4,097, or rests on a snapshot, in this order, and `Memory` last, only if memory runs
+    /// out: the events lack no round and no slot then. Looks at what the nodes that are up have beyond this node's log; only if the node has
+    /// to restart the log is in the events.
     pub fn rescue(
         &self,
         node: u8,
@@ -51,12 +53,12 @@ impl<M: Machine> World<M> {
         body: M::Body,
     ) -> Result<Vec<Event<M::Body>>, RescueFault>
         ensures refused { (first : M.Content) (es : List (occurred.Event M.Body)) →
-            StandsAt M.Body.same M.content M.loaded (machine_from M.steps first) self.now es →
-            Refuses (rescue_refused self.now.members (played M.Body.same self.now.members es) node) result }
+            StandsAt M.Body.same M.content M.saved M.loaded (machine_from M.steps first) self.now es →
+            Refuses (rescue_refused self.now.members (played_of M.saved (machine_from M.steps first) M.Body.same self.now.members es) node) result }
         ensures rescued { (first : M.Content) (es : List (occurred.Event M.Body)) →
-            StandsAt M.Body.same M.content M.loaded (machine_from M.steps first) self.now es →
-            MayBeRescued (node_at (played M.Body.same self.now.members es).nodes node) number →
-            IfOk result (λ events. Rescues M.Body.same self.now.members (played M.Body.same self.now.members es) node number body events.items) }
+            StandsAt M.Body.same M.content M.saved M.loaded (machine_from M.steps first) self.now es →
+            MayBeRescued (node_at (played_of M.saved (machine_from M.steps first) M.Body.same self.now.members es).nodes node) number →
+            IfOk result (λ events. Rescues M.Body.same self.now.members (played_of M.saved (machine_from M.steps first) M.Body.same self.now.members es) node number body events.items) }
     {
         laws::no_dead_end::<M::Body>();
         laws::rescues_have_room::<M::Body>();
@@ -143,7 +145,7 @@ impl<M: Machine> World<M> {
         count
     }
 
-    // Returns whether a node that is up holds a round or a slot past the limits.
+    // Returns whether a node that is up holds a round or a slot past the limits, or rests on a snapshot.
     fn is_crowded(&self) -> bool
         ensures { result ≡ any_member self.now.members (λ k. is_crowded (node_at self.now.nodes k)) }
     {
@@ -154,7 +156,7 @@ impl<M: Machine> World<M> {
         crowded
     }
 
-    // Returns whether the node is up and holds a round or a slot past the limits.
+    // Returns whether the node is up and holds a round or a slot past the limits, or rests on a snapshot.
     fn is_crowded_at(&self, node: u8) -> bool
         ensures { result ≡ is_crowded (node_at self.now.nodes node) }
     {
@@ -162,7 +164,7 @@ impl<M: Machine> World<M> {
         let Some(held) = self.running(node) else {
             return false;
         };
-        is_late(held) || has_late_vote(held)
+        is_late(held) || has_late_vote(held) || rests(held)
     }
 
     // The votes that a node has cast ascend.
@@ -249,6 +251,13 @@ fn round_of(promised: Option<Ballot>) -> u64
         Some(promised) => promised.round,
         None => 0,
     }
+}
+
+// Returns whether the node rests on a snapshot.
+fn rests<B>(node: &Node<B>) -> bool
+    ensures { result ≡ nat_lt 0 (floor_in node.now.state.rows.snapshot) }
+{
+    0 < node.floor().get()
 }
 
 // Returns whether the node's last vote, and so any of them, is in a slot past the limit.

@@ -1,20 +1,24 @@
 //! The world of a cluster: how it begins, and what it shows of logs, sayings and packets.
 
-ghost use Rattle.std.specs.Prelude.{◌≡◌, ◌-◌, ◌<◌, ◌≤◌, ◌+◌, ◌++◌, ◌∷◌, [], List, false, Some, None, IfOk, OnOk, OnErr, length, map, slice_get, nat_le, option_copied, IfSome, if◌then◌else◌, vec_len, vec_capacity};
+ghost use Rattle.std.specs.Prelude.{◌≡◌, ◌-◌, ◌<◌, ◌≤◌, ◌+◌, ◌^◌, ◌++◌, ◌∷◌, [], List, false, Some, None, IfOk, OnOk, OnErr, length, map, slice_get, nat_le, option_copied, IfSome, if◌then◌else◌, vec_len, vec_capacity};
 ghost use Rattle.replica_follower.specs.Following.{Follows};
+ghost use Rattle.paxos_node.specs.Applying.{base};
 ghost use Rattle.paxos_node.specs.declared.event.Event as occurred;
 ghost use Rattle.replica_machine.specs.Log.{machine_from};
+ghost use Rattle.replica_machine.specs.Roll.{HasStandings};
 ghost use Rattle.cluster_world.specs.Founding.{AreFounded, AreAlike, AllFollow, NoneGivenUp};
 ghost use Rattle.cluster_world.specs.StandsAt.{StandsAt, HaveContent, LoadsFirst, HasLog, machine_at};
 ghost use Rattle.cluster_world.specs.Members.{MemberState, node_or_absent, machine_or_none};
 ghost use Rattle.cluster_world.specs.Told.{WereHanded};
-ghost use Rattle.cluster_world.specs.World.{node_at, played, log_of, handed};
+ghost use Rattle.cluster_world.specs.World.{node_at, handed};
+ghost use Rattle.cluster_world.specs.Saving.{played_of};
+ghost use Rattle.cluster_world.specs.Headline.{log_in, floor_in};
 
 use crate::fault::Memory;
 use crate::handings::{Handings, all_tell};
 use crate::member::Member;
 use paxos_packets::{Entry, Members, Packet, Transport};
-use replica_machine::{Machine, SaveFault};
+use replica_machine::{Machine, Roll, SaveFault};
 use std::alloc::Global;
 use std::marker::Model;
 use world_packets::SentPackets;
@@ -25,7 +29,7 @@ pub struct World<M: Machine> {
     pub(crate) list: Vec<Member<M>>,
     pub(crate) sent: SentPackets<M::Body>,
     pub(crate) made: Vec<Entry<M::Body>>,
-    // The octets of the empty log with the first machine, of which a restart makes a machine; none if that machine had failed.
+    // The octets of the empty log with the first machine, of which a restart without a snapshot makes a machine; none if that machine had failed.
     pub(crate) first: Vec<u8>,
 }
 
@@ -60,15 +64,15 @@ impl<M: Machine> World<M> {
     /// Returns the first world of these members: all nodes are up in their first boot, and nothing was sent. Node 1 gets the first machine,
     /// and so on; all have one content. A machine that has failed is given up at the first entry for it.
     ///
-    /// Saves the first machine: a restart makes a machine of its octets, which has the first content again. If no machine is made of them, or if
-    /// the first machine has failed, a restart gives the machine of its node up.
+    /// Saves the first machine: a restart of a node without a snapshot makes a machine of its octets, which has the first content again. If no
+    /// machine is made of them, or if the first machine has failed, such a restart gives the machine of its node up.
     pub fn new(alloc: Global, members: Members, machines: Vec<M>) -> Result<World<M>, Memory>
         requires count { vec_len machines ≡ members }
         requires alike { AreAlike M.content machines.items }
         ensures members { IfOk result (λ w. w.members ≡ members) }
         ensures alive { IfOk result (λ w. NoneGivenUp w.machines) }
         ensures stands { (first : M.Content) → HaveContent M.content first machines.items →
-            IfOk result (λ w. StandsAt M.Body.same M.content M.loaded (machine_from M.steps first) w []) }
+            IfOk result (λ w. StandsAt M.Body.same M.content M.saved M.loaded (machine_from M.steps first) w []) }
     {
         let _ = members.count();
         let mut list = Vec::new(alloc);
@@ -84,11 +88,16 @@ impl<M: Machine> World<M> {
         })
     }
 
-    /// Returns the node's log, slot 1 first; empty if it is down or not a member. Does not allocate.
+    /// Returns the members of the cluster. Does not allocate.
+    pub fn members(&self) -> Members
+        ensures { result ≡ self.now.members }
+    {
+        self.members
+    }
+
+    /// Returns the entries of the node's log above its floor, the lowest slot first; empty if it is down or not a member. Does not allocate.
     pub fn log(&self, node: u8) -> &[Entry<M::Body>]
-        ensures { (first : M.Content) (es : List (occurred.Event M.Body)) →
-            StandsAt M.Body.same M.content M.loaded (machine_from M.steps first) self.now es →
-            result.now ≡ log_of (played M.Body.same self.now.members es) node }
+        ensures { result.now ≡ log_in self.now node }
     {
         match self.member(node) {
             Some(member) => member.log(),
@@ -96,11 +105,33 @@ impl<M: Machine> World<M> {
         }
     }
 
+    /// Returns the floor of the node's log: how many of its entries the snapshot stands for that the node rests on; 0 without one, or if it is
+    /// not a member. Does not allocate.
+    pub fn floor(&self, node: u8) -> u64
+        ensures value { result ≡ floor_in self.now node }
+        ensures within { result < 2 ^ 40 }
+    {
+        match self.member(node) {
+            Some(member) => member.floor(),
+            None => 0,
+        }
+    }
+
+    /// Returns where each node stands at the floor of the node's log. Does not allocate.
+    pub fn standings(&self, node: u8) -> Roll
+        ensures { HasStandings (base (node_at self.now.nodes node).rows) result }
+    {
+        match self.member(node) {
+            Some(member) => member.standings(),
+            None => Roll::new(),
+        }
+    }
+
     /// Returns what the transport was handed, oldest first; empty if it was handed nothing. Does not allocate.
     pub fn said(&self, transport: Transport) -> &[M::Say]
         ensures { (first : M.Content) (es : List (occurred.Event M.Body)) →
-            StandsAt M.Body.same M.content M.loaded (machine_from M.steps first) self.now es →
-            result.now ≡ handed (machine_from M.steps first) transport (played M.Body.same self.now.members es) }
+            StandsAt M.Body.same M.content M.saved M.loaded (machine_from M.steps first) self.now es →
+            result.now ≡ handed (machine_from M.steps first) transport (played_of M.saved (machine_from M.steps first) M.Body.same self.now.members es) }
     {
         match self.member(transport.node) {
             Some(member) => member.said(transport),
@@ -112,8 +143,8 @@ impl<M: Machine> World<M> {
     /// allocate.
     pub fn handed(&self) -> Handings<'_, M>
         ensures { (first : M.Content) (es : List (occurred.Event M.Body)) →
-            StandsAt M.Body.same M.content M.loaded (machine_from M.steps first) self.now es →
-            WereHanded (machine_from M.steps first) (played M.Body.same self.now.members es) result }
+            StandsAt M.Body.same M.content M.saved M.loaded (machine_from M.steps first) self.now es →
+            WereHanded (machine_from M.steps first) (played_of M.saved (machine_from M.steps first) M.Body.same self.now.members es) result }
     {
         let _ = self.members.count();
         all_tell(&self.list);
@@ -123,8 +154,8 @@ impl<M: Machine> World<M> {
     /// Returns whether the node is up; a node that is not a member is down. Does not allocate.
     pub fn is_up(&self, node: u8) -> bool
         ensures { (first : M.Content) (es : List (occurred.Event M.Body)) →
-            StandsAt M.Body.same M.content M.loaded (machine_from M.steps first) self.now es →
-            result ≡ (node_at (played M.Body.same self.now.members es).nodes node).up }
+            StandsAt M.Body.same M.content M.saved M.loaded (machine_from M.steps first) self.now es →
+            result ≡ (node_at (played_of M.saved (machine_from M.steps first) M.Body.same self.now.members es).nodes node).up }
     {
         match self.member(node) {
             Some(member) => member.is_up(),
@@ -135,8 +166,8 @@ impl<M: Machine> World<M> {
     /// Returns how many packets were ever sent. Does not allocate.
     pub fn sent(&self) -> usize
         ensures { (first : M.Content) (es : List (occurred.Event M.Body)) →
-            StandsAt M.Body.same M.content M.loaded (machine_from M.steps first) self.now es →
-            result ≡ length (played M.Body.same self.now.members es).sent }
+            StandsAt M.Body.same M.content M.saved M.loaded (machine_from M.steps first) self.now es →
+            result ≡ length (played_of M.saved (machine_from M.steps first) M.Body.same self.now.members es).sent }
     {
         self.sent.as_slice().len()
     }
@@ -144,8 +175,8 @@ impl<M: Machine> World<M> {
     /// Returns the packet with this number, from 1 on, in the order in which they were sent. Does not allocate.
     pub fn packet(&self, number: usize) -> Option<&Packet<M::Body>>
         ensures { (first : M.Content) (es : List (occurred.Event M.Body)) →
-            StandsAt M.Body.same M.content M.loaded (machine_from M.steps first) self.now es →
-            option_copied result ≡ (if nat_le 1 number then slice_get (played M.Body.same self.now.members es).sent (number - 1) else None) }
+            StandsAt M.Body.same M.content M.saved M.loaded (machine_from M.steps first) self.now es →
+            option_copied result ≡ (if nat_le 1 number then slice_get (played_of M.saved (machine_from M.steps first) M.Body.same self.now.members es).sent (number - 1) else None) }
     {
         if number == 0 {
             return None;

@@ -12,4 +12,4 @@ pub returns-clause-after : goal.returns-clause-after
 returns-clause-after g c = log_after_is_applied g.B.Body.same
 
 pub returns-clause-logs : goal.returns-clause-logs
-returns-clause-logs g c = log_is_applied g.B.Body.same
+returns-clause-logs g c = log_is_applied g.B.Body.same (record { reflexive = g.met.B.Body.reflexive; sound = g.met.B.Body.sound })

@@ -10,7 +10,7 @@ pub returns-clause-counted : goal.returns-clause-counted
 returns-clause-counted g c = taken_are_counted g.B.Body.same
 
 pub returns-clause-losts : goal.returns-clause-losts
-returns-clause-losts g c = pending_losts_are_live g.B.Body.same
+returns-clause-losts g c = pending_losts_are_live g.B.Body.same (record { reflexive = g.met.B.Body.reflexive; sound = g.met.B.Body.sound })
 
 pub returns-clause-few : goal.returns-clause-few
 returns-clause-few g c = pending_is_few g.B.Body.same
