@@ -15,7 +15,7 @@ use Rattle.replica_machine.specs.Replay.{Steps}
 use Rattle.actor_outboxes.specs.Outboxes.{Waiting, WaitBehind}
 use Rattle.paxos_node.specs.declared.outcome.Outcome.{Outcome}
 use Rattle.paxos_planning.specs.Node.{NodeState}
-use Rattle.paxos_node.specs.Adopting.{adopted, stays_up}
+use Rattle.paxos_node.specs.Adopting.{adopted, rested, stays_up}
 use Rattle.paxos_node.specs.Applying.{down}
 use Rattle.actor_parts.specs.declared.fault.ActorFault.{ActorFault}
 use Rattle.actor_parts.specs.declared.fault.ActorFault.TheVariants.{Failed, Rounds, Full, Keeper, Disagree, LostHere, Worn, Memory}
@@ -23,7 +23,8 @@ use Rattle.actor_parts.specs.Parts.{Parted, IsPrefixOf, IsPlan, IsServing, IsSou
 use Rattle.actor_parts.specs.Handing.{handed_out}
 use Rattle.actor_parts.specs.Steps.{Falls, IsAtEnd, Applied, OnlyNode, OnlyKeeper, OnlyLog, OnlyWaiting, next_node, Adopts, StaysWho, AnswersUp, Takes, TakesNot, TakesIn}
 
--- a node that adopts an outcome has the rows with its change, is up unless the outcome says otherwise, and has applied its entries
+-- a node that adopts an outcome has the rows with its change, is up unless the outcome says otherwise, and has applied its entries, if it commits
+-- no snapshot
 
 pub next_rows : {B : Type 0} (me members : ℕ) (o : Outcome B) (x : NodeState B) → (adopted me members o x).rows ≡ accepting.adopted x.rows o.change
 next_rows {B} me members o x = by_down o.is_down
@@ -51,9 +52,9 @@ is_down me members o x up h = by_down o.is_down refl
     by_down true e = refl
     by_down false e = absurd (false≢true (sym h ∙ up_is me members o x up false e))
 
-pub next_applied : {B : Type 0} (me members : ℕ) (o : Outcome B) (x : NodeState B) → o.is_down ≡ false
+pub next_applied : {B : Type 0} (me members : ℕ) (o : Outcome B) (x : NodeState B) → o.change.snapshot ≡ None → o.is_down ≡ false
     → (adopted me members o x).applied ≡ x.applied ++ o.applied
-next_applied me members o x e = rw e refl
+next_applied me members o x plain e = rw e (λ i. (rested o.moves.over (plain i) x).applied ++ o.applied)
 
 -- beginnings of a log
 
@@ -293,6 +294,7 @@ module _ {B M K : Type 0} where
         serves = λ e. let s = sound.serves e in record {
           up = s.up;
           held = s.held;
+          plain = s.plain;
           whole = s.whole;
           followed = s.followed;
           alive = s.alive;

@@ -58,10 +58,11 @@ pub record IsPlan {B : Type 0} (same : B → B → Bool) (me members : ℕ) (x :
   pub planned : Planned same members event x o
 
 module _ {B M K : Type 0} where
-  -- what holds of an actor that goes on: its keeper holds its rows, and its machine has followed its log
+  -- what holds of an actor that goes on: its keeper holds its rows, which have no snapshot, and its machine has followed its log
   pub record IsServing (holds : K → Rows B → Type 0) (is_failed : K → Bool) (a : Parted B M K) : Type 0 where
     pub up : a.node.state.up ≡ true
     pub held : holds a.keeper a.node.state.rows
+    pub plain : a.node.state.rows.snapshot ≡ None
     pub whole : is_failed a.keeper ≡ false
     pub followed : a.log.applied ≡ a.node.state.applied
     pub alive : a.log.failed ≡ false

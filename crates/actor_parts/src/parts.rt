@@ -12,7 +12,7 @@ ghost use Rattle.actor_outboxes.specs.Outboxes.{HasLimits, IsPeer, TakenFor, Wai
 ghost use Rattle.replica_machine.specs.Log.{Follows};
 ghost use Rattle.actor_parts.specs.Parts.{Parted, IsPrefixOf, first_parts, open_slots};
 ghost use Rattle.actor_parts.specs.Steps.{IsAtEnd, Applied, Falls, OnlyNode, OnlyKeeper, OnlyLog, OnlyWaiting, Adopts};
-ghost use Rattle.paxos_planning.specs.Node.{log_length};
+ghost use Rattle.paxos_planning.specs.Node.{told_length};
 
 use crate::following::apply_all;
 use crate::storing::commit;
@@ -122,11 +122,15 @@ impl<M: Machine, K: Keeper<M::Body>> Parts<M, K> {
         self.node.is_up()
     }
 
-    /// Returns how many entries its node has applied.
+    /// Returns the length of its node's log; 0 once the node is down.
     pub fn applied(&self) -> u64
-        ensures { result ≡ log_length self.now.node.state }
+        ensures { result ≡ told_length self.now.node.state }
     {
-        self.node.applied()
+        if self.node.is_up() {
+            self.node.applied()
+        } else {
+            0
+        }
     }
 
     /// Returns whether entries of its node wait for a slot.

@@ -5,7 +5,7 @@ use Rattle.actor_outboxes.specs.Outboxes.{Waiting, waiting}
 use Rattle.actor_parts.specs.Parts.{open_slots}
 use Rattle.node_actor.specs.Actor.{Acting}
 use Rattle.actor_run.specs.declared.feed.Seen.{Seen}
-use Rattle.paxos_planning.specs.Node.{log_length}
+use Rattle.paxos_planning.specs.Node.{told_length}
 
 -- how many packets wait for a member, as far as 16 bits count them
 abbrev pub count_for : {B : Type 0} → ℕ → Waiting B → ℕ
@@ -20,7 +20,7 @@ pub record Shows {B M K : Type 0} (a : Acting B M K) (s : Seen) : Type 0 where
   pub peer : s.from ≡ a.last.from
   pub heard : s.heard ≡ a.last.heard
   pub posted : s.posted ≡ a.last.posted
-  pub applied : s.applied ≡ log_length a.node.state
+  pub applied : s.applied ≡ told_length a.node.state
   pub pending : s.pending ≡ nat_lt 0 (length a.node.state.pending)
   pub waits : s.waiting ≡ counts a.waiting
   pub leads : s.leads ≡ is_leading a.node.state.proposer.role

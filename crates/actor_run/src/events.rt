@@ -69,6 +69,7 @@ fn is_own<B>(node: u8, event: &Event<B>) -> bool
         Event::Start { node: of } => *of == node,
         Event::Suspect { node: of, .. } => *of == node,
         Event::Deliver { .. } => false,
+        Event::Cut { .. } => false,
         Event::Crash { .. } => false,
         Event::Restart { .. } => false,
     }

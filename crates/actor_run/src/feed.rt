@@ -14,7 +14,7 @@ pub struct Seen {
     pub from: Option<u8>,
     /// What that packet showed.
     pub heard: Option<Heard>,
-    /// How many entries the node has applied.
+    /// The length of the node's log; 0 if the node is down.
     pub applied: u64,
     /// Whether entries are pending.
     pub pending: bool,

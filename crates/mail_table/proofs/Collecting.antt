@@ -1,37 +1,43 @@
 -- The gatherer takes in a seat, and what it knows in the end.
-use Rattle.std.proofs.Common.{◌≡◌, ◌≢◌, ℕ, zero, suc, ◌≤◌, ◌⊎◌, eqb, Bool, true, false, ◌&&◌, arith, length, map}
-use Rattle.std.proofs.Common.{get_or, refl, sym, ap, ◌∙◌, subst, ⊎_elim, inl, inr, List, [], ◌∷◌, ◌++◌, set, Option}
+use Rattle.std.proofs.Common.{◌≡◌, ◌≢◌, ℕ, zero, suc, ◌+◌, ◌≤◌, ◌⊎◌, eqb, Bool, true, false, ◌&&◌, arith, length, length-append, map}
+use Rattle.std.proofs.Common.{get_or, refl, sym, ap, ◌∙◌, subst, ⊎_elim, inl, inr, List, [], ◌∷◌, ◌++◌, set, Option, Some, None}
 use Rattle.std.proofs.lemmas.Bool.{eq-eqb, ne_eqb, cond-true, cond-false, cases_eq, eqb-true, and_parts, or_cases}
 use Rattle.std.proofs.lemmas.List.{append-nil, map-append}
 use Rattle.std.specs.List.{list_any, list_all}
-use Rattle.std.specs.Prelude.{◌==◌, if◌then◌else◌}
+use Rattle.std.specs.Prelude.{◌==◌, if◌then◌else◌, MatchBool}
 use mathlib.Core.Option.{some}
 use lib.ListN.{get_elem?}
 use Rattle.atomic_table.proofs.Lists.{at_set, set_else}
 use Rattle.atomic_table.specs.Table.{State, Joins, Final, Seen}
 use Rattle.cluster_world.proofs.Agreeing.{learned_is_chosen, told_is_chosen, chosen_is_one, logs_are_prefixes}
+use Rattle.cluster_world.proofs.CutLogs.{nodes_rest_on_logs}
 use Rattle.cluster_world.proofs.Lists.{has_cons, has_cases, has_left, has_nil, has_one, has_right, map_has}
 use Rattle.cluster_world.specs.Chosen.{Chosen}
 use Rattle.cluster_world.specs.Has.{Has, here, there}
 use Rattle.cluster_world.specs.Laws.{IsPrefixOf}
-use Rattle.cluster_world.specs.World.{node_at, played, log_of}
+use Rattle.cluster_world.specs.World.{Cut, World, node_at, played, under, log_of}
 use Rattle.paxos_learner.specs.declared.learned.LearnedEntry.{LearnedEntry}
+use Rattle.paxos_node.specs.Applying.{base, stands_at}
+use Rattle.paxos_node.specs.declared.event.Event.{Event}
 use Rattle.paxos_node.specs.declared.view.Opened.{Opened}
 use Rattle.paxos_node.specs.declared.view.Opened.TheVariants.{Never, With}
 use Rattle.paxos_packets.specs.Body.{IsEquality}
 use Rattle.paxos_packets.specs.Members.{IsMember}
+use Rattle.paxos_packets.specs.Snapshot.{floor_in}
+use Rattle.paxos_packets.specs.Snapshot as taken
 use Rattle.paxos_packets.specs.declared.entry.Entry.{Entry}
 use Rattle.paxos_packets.specs.declared.packet.Packet.{Packet}
 use Rattle.paxos_packets.specs.declared.rows.Rows.{Rows}
-use Rattle.paxos_planning.specs.Node.{NodeState}
+use Rattle.paxos_planning.specs.Node.{NodeState, log_length, told_length}
+use Rattle.replica_machine.specs.Roll.{standing}
 use Rattle.mail_table.proofs.Covering.{shown}
 use Rattle.mail_table.proofs.Moving.{behind_has}
 use Rattle.mail_table.proofs.Parcels.{box_ahead}
 use Rattle.mail_table.specs.Boxes.{Fits, IsAhead, Kept}
 use Rattle.mail_table.specs.Covered.{Covers, Matches}
-use Rattle.mail_table.specs.Gathered.{Gathered, Opening, PostsArrive, LogsAgree, LearnersAgree}
+use Rattle.mail_table.specs.Gathered.{Gathered, Opening, PostsArrive, IsWholeLog, ShowsLog, LogsAgree, LearnersAgree}
 use Rattle.mail_table.specs.Seats.{Mailed, Seated, all_sit, is_whole, parts_of}
-use Rattle.mail_table.specs.Views.{box_of, log_in, log_shown, through}
+use Rattle.mail_table.specs.Views.{box_of, length_shown, through}
 use Rattle.mail_table.specs.declared.part.Part.{Part}
 
 module _ {B : Type 0} (same : B → B → Bool) (n : ℕ) where
@@ -130,17 +136,16 @@ module _ {B : Type 0} (same : B → B → Bool) (n : ℕ) where
       (λ k m. subst (λ j. Matches (g.part k).seen.opened (rows j)) (g.named k m) (o.0 (g.part k) (g.all k m))) o.1
 
   module _ (equal : IsEquality same) (many : 3 ≤ n) where
-    prefix_by : (a b : Opened B) (x y : NodeState B) (v w : List (Entry B)) → ((r : Rows B) → a ≡ With r → x.applied ≡ v)
-        → ((r : Rows B) → b ≡ With r → y.applied ≡ w) → IsPrefixOf v w ⊎ IsPrefixOf w v
-        → IsPrefixOf (log_shown a x) (log_shown b y) ⊎ IsPrefixOf (log_shown b y) (log_shown a x)
-    prefix_by Never b x y v w f g p = inl (log_shown b y, refl)
-    prefix_by (With r) Never x y v w f g p = inr (x.applied, refl)
-    prefix_by (With r) (With q) x y v w f g p =
-        subst (λ (z : List (Entry B) × List (Entry B)). IsPrefixOf z.0 z.1 ⊎ IsPrefixOf z.1 z.0) (λ i. (
-          sym (f r refl) i,
-          sym (g q
-              refl) i,
-        )) p
+    -- the log of a node that nobody opened is empty
+    abbrev log_by : Opened B → List (Entry B) → List (Entry B)
+    log_by Never l = []
+    log_by (With r) l = l
+
+    prefix_by : (a b : Opened B) (v w : List (Entry B)) → IsPrefixOf v w ⊎ IsPrefixOf w v
+        → IsPrefixOf (log_by a v) (log_by b w) ⊎ IsPrefixOf (log_by b w) (log_by a v)
+    prefix_by Never b v w p = inl (log_by b w, refl)
+    prefix_by (With r) Never v w p = inr (v, refl)
+    prefix_by (With r) (With q) v w p = p
 
     -- an opened node of a part is the world's
     node_shown : (parts : List (Part B)) (g : Gathered same n parts) (rows : ℕ → Rows B) (o : Opening same n parts rows) (x : Part B)
@@ -154,16 +159,72 @@ module _ {B : Type 0} (same : B → B → Bool) (n : ℕ) where
         (ap (λ (z : Part B). z.seen.opened) is ∙ e) (c.nodes x.me m)
         ∙ ap (λ (z : Part B). z.seen.node) is
 
-    pub logs_agree : (parts : List (Part B)) → Gathered same n parts → LogsAgree same n parts
-    logs_agree parts g rows o x y hx hy mx my =
-        let c = covers parts g rows o in
-        let w = played same n c.events in
-        prefix_by x.seen.opened y.seen.opened x.seen.node y.seen.node (log_of w x.me) (log_of w y.me)
-        (λ r e. ap (λ (z : NodeState B). z.applied) (sym (node_shown parts g rows o x hx mx r e)))
-        (λ r e. ap (λ (z : NodeState B). z.applied) (sym (node_shown parts g rows o y hy my r e)))
-        (subst (λ es. IsPrefixOf (log_of w x.me) (log_of (played same n es) y.me) ⊎ IsPrefixOf (log_of (played same n es) y.me) (log_of
-        w x.me))
-        (append-nil c.events) (logs_are_prefixes same equal n many c.events [] x.me y.me))
+    -- a snapshot of a node stands for a log
+    under_is : (few : n ≤ 7) (events : List (Event B)) (k : ℕ) (o : Option taken.Snapshot)
+        → (node_at (played same n events).nodes k).rows.snapshot ≡ o
+        → (length (under (played same n events).cuts o) ≡ floor_in o)
+        × ((j : ℕ) → stands_at o j ≡ standing j (under (played same n events).cuts o))
+    under_is few events k None e = (refl, λ j. refl)
+    under_is few events k (Some s) e = let l = nodes_rest_on_logs same equal n many few events k s e in (l.long, l.stands)
+
+    -- so a node has a whole log, as long as it tells
+    module _ (cuts : List (Cut B)) (x : NodeState B) (long : length (under cuts x.rows.snapshot) ≡ floor_in x.rows.snapshot)
+        (stands : (j : ℕ) → base x.rows j ≡ standing j (under cuts x.rows.snapshot)) where
+      is_whole_log : (up : Bool)
+          → MatchBool up (IsWholeLog x (if up then under cuts x.rows.snapshot ++ x.applied else []))
+          ((if up then under cuts x.rows.snapshot ++ x.applied else []) ≡ [])
+      is_whole_log true = record { below = under cuts x.rows.snapshot; is = refl; long = long; stands = stands }
+      is_whole_log false = refl
+
+      is_so_long : (up : Bool)
+          → length (if up then under cuts x.rows.snapshot ++ x.applied else []) ≡ (if up then log_length x else 0)
+      is_so_long true = length-append (under cuts x.rows.snapshot) x.applied ∙ ap (λ m. m + length x.applied) long
+      is_so_long false = refl
+
+    pub logs_agree : n ≤ 7 → (parts : List (Part B)) → Gathered same n parts → LogsAgree same n parts
+    logs_agree few parts g rows o =
+        record {
+          log = log;
+          shown = λ x h m. by_opened x h (λ p l. ShowsLog p x.seen.node l) refl (λ r e. (of_node x h m r e).0);
+          long = λ x h m. by_opened x h (λ p l. length l ≡ length_shown p x.seen.node) refl (λ r e. (of_node x h m r e).1);
+          agree = λ j k. prefix_by (g.part j).seen.opened (g.part k).seen.opened (log_of w j) (log_of w k)
+              (subst (λ es. IsPrefixOf (log_of w j) (log_of (played same n es) k) ⊎ IsPrefixOf (log_of (played same n es) k) (log_of w j))
+              (append-nil events) (logs_are_prefixes same equal n many events [] j k));
+        }
+      where
+        events : List (Event B)
+        events = (covers parts g rows o).events
+
+        w : World B
+        w = played same n events
+
+        log : ℕ → List (Entry B)
+        log k = log_by (g.part k).seen.opened (log_of w k)
+
+        -- a node that was opened is the world's
+        of_node : (x : Part B) → Has parts x → IsMember n x.me → (r : Rows B) → x.seen.opened ≡ With r
+            → MatchBool x.seen.node.up (IsWholeLog x.seen.node (log_of w x.me)) (log_of w x.me ≡ [])
+            × (length (log_of w x.me) ≡ told_length x.seen.node)
+        of_node x h m r e =
+            let is = node_shown parts g rows o x h m r e in
+            let u = under_is few events x.me (node_at w.nodes x.me).rows.snapshot refl in
+            subst
+            (λ (y : NodeState B). MatchBool y.up (IsWholeLog y (log_of w x.me)) (log_of w x.me ≡ []) × (length (log_of w x.me) ≡ told_length y))
+            is (
+              is_whole_log w.cuts (node_at w.nodes x.me) u.0 u.1 (node_at w.nodes x.me).up,
+              is_so_long w.cuts (node_at w.nodes x.me) u.0 u.1 (node_at w.nodes x.me).up,
+            )
+
+        -- what holds of the empty log of a node that nobody opened, and of the world's log of one that was opened
+        by_opened : (x : Part B) → Has parts x → (P : Opened B → List (Entry B) → Type 0) → P Never []
+            → ((r : Rows B) → x.seen.opened ≡ With r → P (With r) (log_of w x.me)) → P x.seen.opened (log x.me)
+        by_opened x h P never opened =
+            subst (λ (q : Opened B). P x.seen.opened (log_by q (log_of w x.me)))
+            (ap (λ (z : Part B). z.seen.opened) (sym (g.mine x h))) (at x.seen.opened refl)
+          where
+            at : (q : Opened B) → x.seen.opened ≡ q → P q (log_by q (log_of w x.me))
+            at Never i = never
+            at (With r) i = opened r i
 
     pub learners_agree : (parts : List (Part B)) → Gathered same n parts → LearnersAgree same n parts
     learners_agree parts g rows o x y hx hy mx my a p slot e ma h kind r f opened learned at =

@@ -1,18 +1,23 @@
 -- What the seats of all nodes know together once they are gathered (docs/ARCHITECTURE.md, "Threads").
-use Rattle.std.specs.Prelude.{◌≡◌, ◌⊎◌, ℕ, Bool, List}
+use Rattle.std.specs.Prelude.{◌≡◌, ◌⊎◌, ℕ, Bool, List, [], ◌++◌, length, MatchBool}
 use Rattle.cluster_world.specs.Has.{Has}
 use Rattle.cluster_world.specs.Laws.{IsPrefixOf}
 use Rattle.paxos_learner.specs.declared.learned.LearnedEntry.{LearnedEntry}
-use Rattle.paxos_node.specs.declared.view.Opened.TheVariants.{With}
+use Rattle.paxos_node.specs.Applying.{base}
+use Rattle.paxos_node.specs.declared.view.Opened.{Opened}
+use Rattle.paxos_node.specs.declared.view.Opened.TheVariants.{Never, With}
 use Rattle.paxos_packets.specs.Members.{IsMember}
+use Rattle.paxos_packets.specs.Snapshot.{floor_in}
 use Rattle.paxos_packets.specs.declared.entry.Entry.{Entry}
 use Rattle.paxos_packets.specs.declared.packet.Kind.TheVariants.{Learned}
 use Rattle.paxos_packets.specs.declared.packet.Packet.{Packet}
 use Rattle.paxos_packets.specs.declared.rows.Rows.{Rows}
+use Rattle.paxos_planning.specs.Node.{NodeState}
+use Rattle.replica_machine.specs.Roll.{standing}
 use Rattle.mail_table.specs.declared.part.Part.{Part}
 use Rattle.mail_table.specs.Boxes.{IsAhead, Posted}
 use Rattle.mail_table.specs.Covered.{Agreed, Covered, Matches}
-use Rattle.mail_table.specs.Views.{box_of, log_in, through}
+use Rattle.mail_table.specs.Views.{box_of, length_in, through}
 
 -- of n nodes all parts are known: the views are covered, what was posted was sent, and what was received is what was posted, in order, each
 -- once, but for at most one packet that is in the box
@@ -36,11 +41,29 @@ PostsArrive {B} n parts =
     (x y : Part B) → Has parts x → Has parts y → IsMember n x.me → IsMember n y.me
     → IsAhead (through (box_of n x.me y.me) x.posted) (through (box_of n x.me y.me) y.received)
 
--- of each two logs one is a prefix of the other
+-- the whole log of a node that is up: as many entries as its floor says, after which the nodes stand as they do by its snapshot, and then what it
+-- has applied
+pub record IsWholeLog {B : Type 0} (x : NodeState B) (log : List (Entry B)) : Type 0 where
+  pub below : List (Entry B)
+  pub is : log ≡ below ++ x.applied
+  pub long : length below ≡ floor_in x.rows.snapshot
+  pub stands : (k : ℕ) → base x.rows k ≡ standing k below
+
+-- as a view shows it: empty if the node is down, or was never opened
+abbrev pub ShowsLog : {B : Type 0} → Opened B → NodeState B → List (Entry B) → Type 0
+ShowsLog Never x log = log ≡ []
+ShowsLog (With r) x log = MatchBool x.up (IsWholeLog x log) (log ≡ [])
+
+-- whole logs of all nodes, each as long as its view tells; of each two one is a prefix of the other
+pub record AreLogs {B : Type 0} (n : ℕ) (parts : List (Part B)) : Type 0 where
+  pub log : ℕ → List (Entry B)
+  pub shown : (x : Part B) → Has parts x → IsMember n x.me → ShowsLog x.seen.opened x.seen.node (log x.me)
+  pub long : (x : Part B) → Has parts x → IsMember n x.me → length (log x.me) ≡ length_in x.seen
+  pub agree : (j k : ℕ) → IsPrefixOf (log j) (log k) ⊎ IsPrefixOf (log k) (log j)
+
+-- there are such logs
 abbrev pub LogsAgree : {B : Type 0} → (B → B → Bool) → ℕ → List (Part B) → Type 0
-LogsAgree {B} same n parts =
-    (rows : ℕ → Rows B) → Opening same n parts rows → (x y : Part B) → Has parts x → Has parts y → IsMember n x.me → IsMember n y.me
-    → IsPrefixOf (log_in x.seen) (log_in y.seen) ⊎ IsPrefixOf (log_in y.seen) (log_in x.seen)
+LogsAgree {B} same n parts = (rows : ℕ → Rows B) → Opening same n parts rows → AreLogs n parts
 
 -- if a node received a Learned of a slot, no node that was opened has learned another entry there
 abbrev pub LearnersAgree : {B : Type 0} → (B → B → Bool) → ℕ → List (Part B) → Type 0

@@ -1,9 +1,8 @@
 -- What a seat knows of one node, and what each step adds to it (docs/ARCHITECTURE.md, "Threads").
 use Rattle.std.specs.Prelude.{ℕ, zero, suc, ◌+◌, ◌*◌, ◌==◌, Bool, true, false, List, [], ◌∷◌, ◌++◌, if◌then◌else◌}
-use Rattle.paxos_packets.specs.declared.entry.Entry.{Entry}
 use Rattle.paxos_packets.specs.declared.packet.Packet.{Packet}
 use Rattle.paxos_packets.specs.declared.rows.Rows.{Rows}
-use Rattle.paxos_planning.specs.Node.{NodeState, log_length}
+use Rattle.paxos_planning.specs.Node.{NodeState, told_length}
 use Rattle.paxos_node.specs.Applying.{started}
 use Rattle.paxos_node.specs.View.{Viewed, moved}
 use Rattle.paxos_node.specs.declared.view.Opened.{Opened}
@@ -53,19 +52,11 @@ unopened me =
       seen = record { opened = Never; node = absent; sent = [] };
     }
 
--- the log of a node, as a view shows it: empty if the node was never opened
-abbrev pub log_shown : {B : Type 0} → Opened B → NodeState B → List (Entry B)
-log_shown Never v = []
-log_shown (With r) v = v.applied
-
-abbrev pub log_in : {B : Type 0} → Viewed B → List (Entry B)
-log_in seen = log_shown seen.opened seen.node
-
--- how long it is: the slot of its last entry
+-- the length of a node's log, as a view shows it: the slot of its last entry, or 0 if the node is down or was never opened
 
 abbrev pub length_shown : {B : Type 0} → Opened B → NodeState B → ℕ
 length_shown Never v = 0
-length_shown (With r) v = log_length v
+length_shown (With r) v = told_length v
 
 abbrev pub length_in : {B : Type 0} → Viewed B → ℕ
 length_in seen = length_shown seen.opened seen.node

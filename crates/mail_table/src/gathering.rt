@@ -44,6 +44,7 @@ impl<B: Body> Mail<B> {
     fn has_all(&self, seats: &[NodeSeat<B>]) -> bool
         ensures value { result ≡ is_whole self.now seats.now }
         ensures least { 3 ≤ self.now.members }
+        ensures most { self.now.members ≤ 7 }
     {
         seats.len() == self.nodes as usize
             && all_of(seats, self.mark.number)

@@ -3,6 +3,7 @@ ghost use Rattle.std.specs.Bool.{OnTrue};
 ghost use Rattle.std.specs.Prelude.{◌≡◌, ◌==◌, ◌<◌, ◌^◌, ℕ, nat_lt, OnOk, OnErr, IfSome, MatchResult, MatchOption, is_ok};
 ghost use Rattle.cluster_world.specs.Has.{Has};
 ghost use Rattle.paxos_packets.specs.Members.{IsMember};
+ghost use Rattle.paxos_packets.specs.Snapshot.{floor_in};
 ghost use Rattle.paxos_node.specs.Adopting.{adopted};
 ghost use Rattle.mail_table.specs.Boxes.{Follows};
 ghost use Rattle.mail_table.specs.Covered.{MayRenew};
@@ -125,7 +126,17 @@ impl<B: Body> Mail<B> {
         let at = word_at(self.nodes, seat.node);
         renew_as::<B, Brand>(&self.table, &mut seat.seat, at, rows);
         seat.events += 1;
-        seat.log = 0;
+        seat.log = length_of(rows);
         Ok(())
+    }
+}
+
+// Returns the length of the log of a node that begins with these rows: it is that of their snapshot.
+fn length_of<B: Body>(rows: &Rows<B>) -> u64
+    ensures { result ≡ floor_in rows.now.snapshot }
+{
+    match &rows.snapshot {
+        Some(snapshot) => snapshot.floor().get(),
+        None => 0,
     }
 }

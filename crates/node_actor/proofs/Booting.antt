@@ -1,7 +1,7 @@
 -- A boot begins, or does not.
 use Rattle.std.proofs.Common.{◌≡◌, ◌⊎◌, inl, inr, ⊎_elim, ◌<◌, ◌≤◌, ◌-◌, ◌^◌, ◌∙◌, ℕ, suc, Bool, true, false, cond, Option, Some, None}
 use Rattle.std.proofs.Common.{Result, Ok, Err, refl, sym, ap, subst, arith}
-use Rattle.std.specs.Prelude.{IfOk, IfErr, nat_lt}
+use Rattle.std.specs.Prelude.{IfOk, IfErr, nat_lt, is_some}
 use Rattle.std.proofs.lemmas.Bool.{and_from, and_parts, false≢true, leb-true, lt-ltb, ltb-true, ltb-false}
 use Rattle.paxos_packets.specs.Ballot.{ballot_same, ballot_sound}
 use Rattle.paxos_packets.specs.Body.{IsEquality}
@@ -23,7 +23,7 @@ use Rattle.node_actor.specs.Compare.{same_promise, same_base, is_ahead, is_later
 use Rattle.node_actor.specs.declared.compare.Fit.{Fit}
 use Rattle.node_actor.specs.declared.compare.Fit.TheVariants.{Left, Meant, Others}
 use Rattle.node_actor.specs.Posts.{Posted}
-use Rattle.node_actor.specs.Beginning.{IsLater, MayBegin, from_left, from_meant, IsEmpty, Boots}
+use Rattle.node_actor.specs.Beginning.{IsLater, MayBegin, from_left, from_meant, IsEmpty, Boots, NoDamage}
 use Rattle.node_actor.specs.Preparing.{judge_of, Loads, again, Found, found_left, found_meant, IsWorn, worn_left, worn_meant}
 use Rattle.node_actor.specs.Preparing.{Refuses, others, worn, strayed, Readied}
 
@@ -93,6 +93,24 @@ module _ {B : Type 0} (same : B → B → Bool) (k r : Rows B) where
           → (o : Outcome B) × (f ≡ Some o) × (is_ahead same (accepting.adopted k o.change) r ≡ true)
       from None e m = absurd (false≢true m)
       from (Some o) e m = (o, e, m)
+
+-- rows have a snapshot, or none
+
+pub none_of : (s : Option taken.Snapshot) → is_some s ≡ false → s ≡ None
+none_of None e = refl
+none_of (Some t) e = absurd (false≢true (sym e))
+
+-- if those of a boot have one, so had those that were held
+pub damage_of : {B K Y : Type 0} (holds : K → Rows B → Type 0) (is_faithful : K → Type 0) (old new : K) (rows : Rows B)
+    → is_some rows.snapshot ≡ true → (is_faithful new → is_faithful old)
+    → (is_faithful new → (r : Rows B) → holds old r → rows ≡ raised r) → NoDamage holds is_faithful {Y = Y} old new (Keeper store.Damaged)
+damage_of {B = B} holds is_faithful old new rows some faithful right =
+    record {
+      faithful = faithful;
+      sound =
+          λ f r held none e.
+          false≢true (sym (ap (λ (x : Rows B). is_some x.snapshot) (right f r held) ∙ ap is_some none) ∙ some);
+    }
 
 -- what the store has is judged
 
@@ -195,6 +213,7 @@ module _ {B K : Type 0} (same : B → B → Bool) (holds finds : K → Rows B �
         faithful = faithful;
         boots = record {
           held = boots.held;
+          plain = boots.plain;
           booted = λ f y h. boots.booted f y ((loads_of r m found).stays.same_rows y h);
           within = boots.within;
         };

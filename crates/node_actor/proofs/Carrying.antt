@@ -1,6 +1,7 @@
 -- What is made of a planned outcome, step after step, with the step at the table.
-use Rattle.std.proofs.Common.{◌≡◌, inl, inr, ℕ, ◌<◌, Bool, true, false, Some, Result, Ok, Err, List, ◌++◌, sym, ap, subst, ◌∙◌, refl}
+use Rattle.std.proofs.Common.{◌≡◌, inl, inr, ℕ, ◌<◌, Bool, true, false, Some, None, Result, Ok, Err, List, ◌++◌, sym, ap, subst, ◌∙◌, refl}
 use Rattle.std.proofs.lemmas.Bool.{false≢true}
+use Rattle.std.specs.Option.{option_or}
 use Rattle.std.specs.declared.vec.Vec.{Vec}
 use Rattle.std.specs.declared.alloc.Global.{Global}
 use Rattle.paxos_packets.specs.declared.rows.Rows.{Rows}
@@ -91,16 +92,16 @@ module _ {B S Y M K : Type 0} (steps : Steps B S Y) (content : M → S) (holds :
   -- and the actor is sound then
   pub sound_on : (o : Outcome B) (old mid new : Parted B M K) (s : Seated B) → IsSound same holds is_failed old
       → IsServing holds is_failed old
-      → Ready holds is_failed o old mid → StaysWho mid new → (result : Result (Vec Y Global) (ActorFault Y))
+      → Ready holds is_failed o old mid → o.change.snapshot ≡ None → StaysWho mid new → (result : Result (Vec Y Global) (ActorFault Y))
       → TakesIn steps content o mid new result → IsSound same holds is_failed new
-  sound_on o old mid new s sound serving r who (Ok says) h =
+  sound_on o old mid new s sound serving r plain who (Ok says) h =
       let over = over_of o old mid new s (advanced o s) says.items refl sound serving r h.2 in
       let all : StaysWho old new = who_on old mid new r.who who in
       let down_not : o.is_down ≡ false = not_down old.node.me old.node.members o old.node.state serving.up
       (ap (λ x. x.up) (sym over.node) ∙ h.0) in
       let followed : new.log.applied ≡ new.node.state.applied =
       h.2.applied.applied ∙ ap (λ (log : LogState B M). log.applied ++ o.applied) r.log ∙ ap (λ log. log ++ o.applied) serving.followed
-      ∙ sym (next_applied old.node.me old.node.members o old.node.state down_not) ∙ ap (λ x. x.applied) (sym over.node) in
+      ∙ sym (next_applied old.node.me old.node.members o old.node.state plain down_not) ∙ ap (λ x. x.applied) (sym over.node) in
       record {
         me = all.waits_me ∙ sound.me ∙ sym all.me;
         members = all.waits_members ∙ sound.members ∙ sym all.members;
@@ -108,6 +109,9 @@ module _ {B S Y M K : Type 0} (steps : Steps B S Y) (content : M → S) (holds :
         serves = λ e. record {
           up = h.0;
           held = subst (λ x. holds new.keeper x.rows) (sym over.node) over.held;
+          plain = ap (λ x. x.rows.snapshot) over.node
+              ∙ (ap (λ r. r.snapshot) (next_rows old.node.me old.node.members o old.node.state)
+              ∙ (ap (λ s. option_or s old.node.state.rows.snapshot) plain ∙ serving.plain));
           whole = ap is_failed h.2.keeper ∙ r.whole;
           followed = followed;
           alive = h.2.applied.alive;
@@ -117,10 +121,10 @@ module _ {B S Y M K : Type 0} (steps : Steps B S Y) (content : M → S) (holds :
         failed = none_failed same new over.failed;
         front = λ up. prefix_whole new.log.applied new.node.state.applied followed;
       }
-  sound_on o old mid new s sound serving r who (Err (LostHere says)) h =
+  sound_on o old mid new s sound serving r plain who (Err (LostHere says)) h =
       sound_spoiled same holds is_failed old new sound (who_on old mid new r.who who) h.1
       (none_failed same new (h.2.failed ∙ r.failed ∙ serving.committed)) (λ up. absurd (false≢true (sym h.0 ∙ up)))
-  sound_on o old mid new s sound serving r who (Err Memory) h =
+  sound_on o old mid new s sound serving r plain who (Err Memory) h =
       let node : new.node.state ≡ next_node o old = h.1.node ∙ next_same o old mid r.who.me r.who.members r.state in
       sound_spoiled same holds is_failed old new sound (who_on old mid new r.who who) h.0
       (none_failed same new (h.1.failed ∙ r.failed ∙ serving.committed)) (λ up.
@@ -128,13 +132,13 @@ module _ {B S Y M K : Type 0} (steps : Steps B S Y) (content : M → S) (holds :
       ∙ up) in
       prefix_to new.log.applied (mid.log.applied ++ o.applied) new.node.state.applied h.1.front
       (ap (λ (log : LogState B M). log.applied ++ o.applied) r.log ∙ ap (λ log. log ++ o.applied) serving.followed
-      ∙ sym (next_applied old.node.me old.node.members o old.node.state down_not) ∙ ap (λ x. x.applied) (sym node)))
-  sound_on o old mid new s sound serving r who (Err (Keeper fault)) h = absurd h
-  sound_on o old mid new s sound serving r who (Err Worn) h = absurd h
-  sound_on o old mid new s sound serving r who (Err Failed) h = absurd h
-  sound_on o old mid new s sound serving r who (Err Rounds) h = absurd h
-  sound_on o old mid new s sound serving r who (Err Full) h = absurd h
-  sound_on o old mid new s sound serving r who (Err Disagree) h = absurd h
+      ∙ sym (next_applied old.node.me old.node.members o old.node.state plain down_not) ∙ ap (λ x. x.applied) (sym node)))
+  sound_on o old mid new s sound serving r plain who (Err (Keeper fault)) h = absurd h
+  sound_on o old mid new s sound serving r plain who (Err Worn) h = absurd h
+  sound_on o old mid new s sound serving r plain who (Err Failed) h = absurd h
+  sound_on o old mid new s sound serving r plain who (Err Rounds) h = absurd h
+  sound_on o old mid new s sound serving r plain who (Err Full) h = absurd h
+  sound_on o old mid new s sound serving r plain who (Err Disagree) h = absurd h
 
 module _ {B S Y M K : Type 0} (steps : Steps B S Y) (content : M → S) (holds : K → Rows B → Type 0) (finds : K → Rows B → Type 0)
     (failures : K → ℕ) (is_failed : K → Bool) where

@@ -2,6 +2,7 @@ mod Renewing
 mod Booting
 mod Restarting
 mod Sound
+mod Plain
 mod Carrying
 mod Seating
 mod Since

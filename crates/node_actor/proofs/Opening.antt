@@ -1,6 +1,7 @@
 -- An actor begins, and goes on from what is left of one.
-use Rattle.std.proofs.Common.{◌≡◌, ℕ, Bool, true, false, Option, None, Some, refl, sym, ap, subst, ◌∙◌}
-use Rattle.std.specs.Prelude.{All, Contains}
+use Rattle.std.proofs.Common.{◌≡◌, inl, inr, ℕ, Bool, true, false, Option, None, Some, refl, sym, ap, subst, ◌∙◌}
+use Rattle.std.specs.Prelude.{All, Contains, is_some}
+use Rattle.std.proofs.lemmas.Bool.{false≢true}
 use Rattle.std.proofs.lemmas.List.Elements.{All-nil}
 use Rattle.paxos_packets.specs.declared.rows.Rows.{Rows}
 use Rattle.actor_outboxes.specs.Outboxes.{Waiting, waiting}
@@ -16,7 +17,7 @@ use Rattle.mail_table.specs.Views.{opened_with}
 use Rattle.actor_parts.specs.Parts.{first_parts}
 use Rattle.node_actor.specs.Posts.{Posted, IsLeft, LeftOf, renewed}
 use Rattle.node_actor.specs.Beginning.{Begins, seat_before}
-use Rattle.node_actor.specs.Preparing.{Returns}
+use Rattle.node_actor.specs.Preparing.{Returns, HasOthers}
 use Rattle.node_actor.proofs.Renewing.{left_renewed}
 use Rattle.node_actor.proofs.Restarting.{returns_of}
 use Rattle.node_actor.specs.Actor.{Acting, acting, IsSeated}
@@ -106,6 +107,11 @@ module _ {B M K : Type 0} (same : B → B → Bool) (p : Posted B) (v : View B) 
       n.renews.seat)
 
 -- the node was never opened
+
+-- so none of its rows are others, if they have no snapshot
+pub never_others : {B : Type 0} (same : B → B → Bool) (p : Posted B) (r : Rows B) → p.rows ≡ None → r.snapshot ≡ None → HasOthers same p r → ⊥
+never_others {B} same p r first none (inl e) = false≢true (sym (ap is_some none) ∙ e)
+never_others {B} same p r first none (inr h) = absurd (let off : ◌≡◌ {A = Option (Rows B)} None (Some h.0) = sym first ∙ h.1 in cc)
 
 opened_first : {B : Type 0} (r : Rows B) (o : Opened B) → o ≡ Never → opened_with r o ≡ With r
 opened_first r o e = subst (λ x. opened_with r x ≡ With r) (sym e) refl

@@ -2,7 +2,7 @@
 use Rattle.std.proofs.Common.{◌≡◌, inl, inr, ⊎_elim, ◌<◌, ◌≤◌, ◌+◌, ◌-◌, ◌++◌, ◌∙◌, append-nil, ℕ, zero, suc, Bool, true, false, not}
 use Rattle.std.proofs.Common.{Some, None, [], ◌∷◌, refl, sym, ap, subst, arith}
 use Rattle.std.proofs.lemmas.Bool.{and_from, and_parts, lt-ltb}
-use Rattle.std.specs.Prelude.{◌==◌}
+use Rattle.std.specs.Prelude.{◌==◌, is_some}
 use Rattle.paxos_packets.specs.Rows.{last_boot, raised}
 use Rattle.paxos_packets.specs.declared.rows.Rows.{Rows}
 use Rattle.paxos_acceptor.specs.Acceptor as accepting
@@ -41,7 +41,7 @@ use Rattle.std.proofs.Common.{eqb}
 use Rattle.paxos_node.specs.Plans.{plans}
 use Rattle.paxos_node.specs.Adopting.{Planned}
 use Rattle.node_actor.specs.Posts.{advanced}
-use Rattle.node_actor.proofs.Booting.{loads_of}
+use Rattle.node_actor.proofs.Booting.{none_of, loads_of}
 use Rattle.node_actor.proofs.Renewing.{rows_behind, rows_of_some}
 
 -- what is there once a boot has begun
@@ -52,7 +52,7 @@ module _ {B K : Type 0} (same : B → B → Bool) (holds finds : K → Rows B �
   pub refused_late : {Y : Type 0} → Refuses same holds finds is_faithful failures {Y = Y} p old new Memory
   refused_late {Y} =
       unbooted Memory r.mid (λ e. absurd cc) r.fits (record { may = tt; found = r.found })
-      (record { faithful = r.faithful; sound = λ f x held e. absurd cc })
+      (record { faithful = r.faithful; sound = λ f x held none e. absurd cc })
 
   abbrev renews_of : (s : Seated B) → s ≡ renewed ready.rows (seat_before ready.meant p.failed p.seat)
       → Renews holds is_faithful p old new s
@@ -245,22 +245,31 @@ module _ {B K : Type 0} (same : B → B → Bool) (holds finds : K → Rows B �
   keeper_is : {Y : Type 0} (f g : KeeperFault) → ◌≡◌ {A = ActorFault Y} (Keeper f) (Keeper g) → f ≡ g
   keeper_is f g e = cc
 
-  -- if what lies below returned what was written, 62 comes of other rows alone
+  -- if what lies below returned what was written, 62 comes of other rows alone, and of rows with a snapshot
   pub exact_of : {Y : Type 0} (old new : K) (f : ActorFault Y) (r : Rows B) → Refuses same holds finds is_faithful failures p old new f
       → holds old r → is_faithful new
       → f ≡ Keeper store.Damaged → HasOthers same p r
   exact_of old new (Keeper x) r (unread k f some stays counted sound) held true_to is = absurd (sound true_to r held
       (keeper_is x store.Damaged is))
   exact_of old new (Keeper store.Damaged) r (others k x some loads fit) held true_to is =
-      (k, some, subst (λ y. fit_of same p.failed k y ≡ Others) (loads.right true_to r held) fit)
+      inr (k, some, subst (λ y. fit_of same p.failed k y ≡ Others) (loads.right true_to r held) fit)
   exact_of old new Memory r (unjudged k x some loads other failed) held true_to is = absurd cc
   exact_of old new Worn r (worn w) held true_to is = absurd cc
   exact_of old new f r (unbooted g mid unworn fits starts whole) held true_to is = go fits
     where
+      at : (b : Bool) → is_some r.snapshot ≡ b → (r.snapshot ≡ None → f ≡ Keeper store.Damaged → ⊥) → HasOthers same p r
+      at true e never = inl e
+      at false e never = absurd (never (none_of r.snapshot e) is)
+
+      by_base : (r.snapshot ≡ None → f ≡ Keeper store.Damaged → ⊥) → HasOthers same p r
+      by_base never = at (is_some r.snapshot) refl never
+
       go : Fits same holds finds is_faithful failures p old mid → HasOthers same p r
-      go (anew none same_keeper counts) = absurd (whole.sound true_to r (subst (λ k. holds k r) (sym same_keeper) held) is)
+      go (anew none same_keeper counts) = by_base (whole.sound true_to r (subst (λ k. holds k r) (sym same_keeper) held))
       go (again x meant found) =
-          absurd (whole.sound true_to x (loads_of same holds finds is_faithful failures p old mid x meant found).held is)
+          let loads = loads_of same holds finds is_faithful failures p old mid x meant found in
+          by_base (subst (λ (y : Rows B). y.snapshot ≡ None → f ≡ Keeper store.Damaged → ⊥) (loads.right (whole.faithful true_to) r held)
+          (whole.sound true_to x loads.held))
   exact_of old new (Keeper store.Damaged) r (strayed mid fits none starts) held true_to is = absurd (none true_to)
 
   may_before : {Y : Type 0} (f : ActorFault Y) (a b c : ℕ) → a ≤ b → MayKeepFrom b c f → MayKeepFrom a c f

@@ -20,6 +20,7 @@ module _ {B M K : Type 0} (same : B → B → Bool) (holds : K → Rows B → Ty
         serves = λ e. record {
           up = ap (λ x. x.up) b.node.state;
           held = subst (λ x. holds keeper x.rows) (sym b.node.state) b.renews.boots.held;
+          plain = ap (λ x. x.rows.snapshot) b.node.state ∙ b.renews.boots.plain;
           whole = b.whole;
           followed = ap (λ x. x.applied) (sym b.node.state);
           alive = refl;

@@ -15,7 +15,7 @@ use Rattle.paxos_acceptor.specs.Acceptor as accepting
 use Rattle.replica_machine.specs.Replay.{Steps}
 use Rattle.actor_outboxes.specs.Outboxes.{most_waiting, waiting, to, IsPeer, HasLimits}
 use Rattle.paxos_node.specs.declared.event.Event.{Event}
-use Rattle.paxos_node.specs.declared.event.Event.TheVariants.{Take, Tick, Start, Suspect, Deliver, Crash, Restart}
+use Rattle.paxos_node.specs.declared.event.Event.TheVariants.{Take, Tick, Start, Suspect, Deliver, Cut, Crash, Restart}
 use Rattle.paxos_node.specs.declared.outcome.Outcome.{Outcome}
 use Rattle.paxos_planning.specs.Node.{NodeState, Plan}
 use Rattle.paxos_node.specs.Adopting.{adopted, Fits, Planned}
@@ -377,6 +377,7 @@ owned_event me (Tick n) h = (eqb-true n me h, refl, refl)
 owned_event me (Start n) h = (eqb-true n me h, refl, refl)
 owned_event me (Suspect n other) h = (eqb-true n me h, refl, refl)
 owned_event me (Deliver p) h = absurd (false≢true h)
+owned_event me (Cut n snapshot) h = absurd (false≢true h)
 owned_event me (Crash n) h = absurd (false≢true h)
 owned_event me (Restart n) h = absurd (false≢true h)
 
@@ -386,6 +387,7 @@ possible_event me (Tick n) x h up = up
 possible_event me (Start n) x h up = up
 possible_event me (Suspect n other) x h up = up
 possible_event me (Deliver p) x h up = absurd (false≢true h)
+possible_event me (Cut n snapshot) x h up = absurd (false≢true h)
 possible_event me (Crash n) x h up = absurd (false≢true h)
 possible_event me (Restart n) x h up = absurd (false≢true h)
 

@@ -13,17 +13,17 @@ use Rattle.replica_machine.specs.Log.{IsLogOf, machine_from}
 use Rattle.replica_machine.specs.Replay.{Steps}
 use Rattle.actor_outboxes.specs.Outboxes.{IsPeer}
 use Rattle.paxos_node.specs.declared.event.Event.{Event}
-use Rattle.paxos_node.specs.declared.event.Event.TheVariants.{Take, Tick, Start, Suspect, Deliver, Crash, Restart}
+use Rattle.paxos_node.specs.declared.event.Event.TheVariants.{Take, Tick, Start, Suspect, Deliver, Cut, Crash, Restart}
 use Rattle.paxos_node.specs.Events.{outcome_of, is_round_refused, is_full_refused}
 use Rattle.paxos_planning.specs.Node.{NodeState}
 use Rattle.actor_parts.specs.declared.fault.ActorFault.{ActorFault}
 use Rattle.actor_parts.specs.declared.fault.ActorFault.TheVariants.{Failed, Rounds, Full, Keeper, Disagree, LostHere, Worn, Memory}
 use Rattle.node_actor.specs.Actor.{Acting}
 use Rattle.actor_parts.specs.Handing.{handed_by}
-use Rattle.node_actor.specs.Views.{View, seen, is_for, received_from, StandsFor, moved_by, sent_by, received_by, Queues}
+use Rattle.node_actor.specs.Views.{View, seen, is_snapshot, is_for, received_from, StandsFor, moved_by, sent_by, received_by, Queues}
 
--- the event that a call makes at a node, if any: no act of the transport 0 is taken, and no packet treated that is for another node, or
--- from no other member
+-- the event that a call makes at a node, if any: no act of the transport 0 is taken, and no packet treated that is for another node, from no
+-- other member, or a snapshot
 
 abbrev pub take_event : {B : Type 0} → ℕ → ℕ → B → Option (Event B)
 take_event me number body = if number == 0 then None else Some (Take me number body)
@@ -39,8 +39,15 @@ is_own me (Tick n) = n == me
 is_own me (Start n) = n == me
 is_own me (Suspect n other) = n == me
 is_own me (Deliver p) = false
+is_own me (Cut n snapshot) = false
 is_own me (Crash n) = false
 is_own me (Restart n) = false
+
+-- an event by which a node may commit a snapshot
+abbrev pub brings_snapshot : {B : Type 0} → Event B → Bool
+brings_snapshot (Deliver p) = is_snapshot p.kind
+brings_snapshot (Cut n snapshot) = true
+brings_snapshot _ = false
 
 -- whether the event is refused
 

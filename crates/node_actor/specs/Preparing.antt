@@ -1,5 +1,5 @@
 -- What a restart is among the events of the core, and why one is refused (docs/CONSENSUS.md, "A node with its store").
-use Rattle.std.specs.Prelude.{◌≡◌, ◌<◌, ◌≤◌, ◌^◌, ℕ, zero, suc, ◌-◌, nat_lt, Bool, true, false, Result, Ok, Err, Some, None, List, []}
+use Rattle.std.specs.Prelude.{◌≡◌, ◌⊎◌, ◌<◌, ◌≤◌, ◌^◌, ℕ, zero, suc, ◌-◌, nat_lt, Bool, true, false, Result, Ok, Err, Some, None, List, []}
 use Rattle.std.specs.Prelude.{◌∷◌, is_some, if◌then◌else◌}
 use Rattle.paxos_packets.specs.Rows.{raised}
 use Rattle.paxos_packets.specs.declared.rows.Rows.{Rows}
@@ -68,9 +68,10 @@ pub record Returns {B : Type 0} (same : B → B → Bool) (p : Posted B) (r : Ro
   pub posted : w.part.posted ≡ v.part.posted
   pub received : w.part.received ≡ v.part.received
 
--- the node was opened, and its store has rows that it may not find again
+-- the store has rows with a snapshot, or the node was opened, and may not find these rows again
 abbrev pub HasOthers : {B : Type 0} → (B → B → Bool) → Posted B → Rows B → Type 0
-HasOthers {B} same p r = (k : Rows B) × (p.rows ≡ Some k) × (fit_of same p.failed k r ≡ Others)
+HasOthers {B} same p r =
+    (is_some r.snapshot ≡ true) ⊎ ((k : Rows B) × (p.rows ≡ Some k) × (fit_of same p.failed k r ≡ Others))
 
 -- whether the failed event's step comes first; else the store has other rows, or the node's word does not count the events that are to come
 abbrev pub judge_of : {Y : Type 0} → Fit → ℕ → Result Bool (ActorFault Y)
@@ -115,8 +116,8 @@ module _ {B K : Type 0} (same : B → B → Bool) (holds finds : K → Rows B �
         → IsWorn p old new
 
   -- the node was opened, and the load failed; or its rows are others; or they are not those that were left, and memory ran out as they were
-  -- compared with those that the failed commit was to leave; or the word is worn; or it counts what is to come, and the boot did not begin; or
-  -- the boot gave other rows than the load, as it never does if what lies below returned what was written
+  -- compared with those that the failed commit was to leave; or the word is worn; or it counts what is to come, and the boot did not begin, or
+  -- its rows have a snapshot; or the boot gave other rows than the load, as it never does if what lies below returned what was written
   pub data Refuses {Y : Type 0} (p : Posted B) (old new : K) : ActorFault Y → Type 0 where
     unread : (k : Rows B) (f : KeeperFault) → p.rows ≡ Some k → Stays old new → (f ≡ store.Store → failures old < failures new)
         → (is_faithful new → (r : Rows B) → holds old r → f ≡ store.Damaged → ⊥)

@@ -1,5 +1,5 @@
 // The actor: how it takes events and turns, what it shows, and how it crashes or leaves.
-ghost use Rattle.std.specs.Prelude.{◌≡◌, ℕ, List, [], length, nat_lt, true, false, Some, Err};
+ghost use Rattle.std.specs.Prelude.{◌≡◌, ℕ, List, [], length, nat_lt, true, false, Some, None, Err};
 ghost use Rattle.paxos_packets.specs.declared.entry.Entry.{Entry};
 ghost use Rattle.paxos_node.specs.declared.event.Event.TheVariants.{Take, Tick, Start, Suspect};
 ghost use Rattle.paxos_proposer.specs.Proposer.{is_leading};
@@ -13,7 +13,7 @@ ghost use Rattle.node_actor.specs.Actor.{acting, IsSeated};
 ghost use Rattle.node_actor.specs.Calls.{Acts, Rests, is_own, take_event};
 ghost use Rattle.node_actor.specs.Turns.{Turns};
 ghost use Rattle.node_actor.specs.Views.{View, seen, StandsFor};
-ghost use Rattle.paxos_planning.specs.Node.{log_length};
+ghost use Rattle.paxos_planning.specs.Node.{told_length};
 
 use crate::event::{make_event, pass};
 use crate::heard::Heard;
@@ -130,9 +130,9 @@ impl<M: Machine, K: Keeper<M::Body>> Actor<M, K> {
     }
 
     /// Takes a turn: for each peer for which packets are due, tries once to post the oldest; then tries to fetch from one peer after
-    /// another, until a try wins. The packet that came, if one did, reaches the node; without one, with one for another node, or with one
-    /// that is from no other member, nothing more happens. Each turn begins to fetch after the peer whose packet came last, or one peer
-    /// further on.
+    /// another, until a try wins. The packet that came, if one did, reaches the node; without one, with one for another node, with one that
+    /// is from no other member, or with a snapshot, nothing more happens. Each turn begins to fetch after the peer whose packet came last,
+    /// or one peer further on.
     pub fn turn(&mut self, mail: &Mail<M::Body>) -> Result<Vec<M::Say>, ActorFault<M::Say>>
         requires owned { Owns mail.now self.old.seat }
         ensures still_owned { Owns mail.now self.new.seat }
@@ -220,9 +220,9 @@ impl<M: Machine, K: Keeper<M::Body>> Actor<M, K> {
         self.parts.boot()
     }
 
-    /// Returns how many entries its node has applied.
+    /// Returns the length of its node's log; 0 once the node is down.
     pub fn applied(&self) -> u64
-        ensures { result ≡ log_length self.now.node.state }
+        ensures { result ≡ told_length self.now.node.state }
     {
         self.parts.applied()
     }
@@ -289,12 +289,13 @@ impl<M: Machine, K: Keeper<M::Body>> Actor<M, K> {
         self.last.posted
     }
 
-    /// Returns the node's log, slot 1 first; empty once the node is down. If running out of memory ended the actor, the last entries may be
-    /// missing. Does not allocate.
+    /// Returns the node's log, slot 1 first, since no snapshot gives a part of it; empty once the node is down. If running out of memory ended
+    /// the actor, the last entries may be missing. Does not allocate.
     pub fn log(&self) -> &[Entry<M::Body>]
         ensures whole { (view : View M.Body) → StandsFor self.now view → self.now.spoiled ≡ false → result.now ≡ (seen view).node.applied }
         ensures front { (view : View M.Body) → StandsFor self.now view → IsPrefixOf result.now (seen view).node.applied }
         ensures down { self.now.node.state.up ≡ false → result.now ≡ [] }
+        ensures plain { self.now.spoiled ≡ false → self.now.node.state.rows.snapshot ≡ None }
     {
         self.parts.log()
     }

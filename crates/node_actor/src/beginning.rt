@@ -29,8 +29,9 @@ pub(crate) struct Begun<B: Body> {
 // Begins a boot of the node from what is left of it, with its store opened again. Opens the node if it was never opened; otherwise goes on
 // from its rows, or from those that a failed commit was to leave, whose event's step it takes first.
 //
-// After a fault the post is handed back, and serves again. `KeeperFault::Damaged` if the store has other rows, and never otherwise if it
-// returns what was written; no boot is begun then. `Worn` if the node's word cannot count more events; no boot is begun then, either.
+// After a fault the post is handed back, and serves again. `KeeperFault::Damaged` if the store has other rows, and no boot is begun then; or
+// after the boot, if its rows have a snapshot; and never otherwise if it returns what was written. `Worn` if the node's word cannot count more
+// events; no boot is begun then, either.
 pub(crate) fn begin<B: Body, K: Keeper<B>, Y: Drop>(
     alloc: Global,
     mail: &Mail<B>,

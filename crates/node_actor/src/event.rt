@@ -9,15 +9,15 @@ ghost use Rattle.mail_table.specs.Boxes.{Follows, Received};
 ghost use Rattle.mail_table.specs.Seats.{Owns};
 ghost use Rattle.node_actor.specs.Actor.{acting, IsSeated};
 ghost use Rattle.node_actor.specs.Posts.{advanced};
-ghost use Rattle.node_actor.specs.Calls.{Acts, Rests, turn_event};
+ghost use Rattle.node_actor.specs.Calls.{Acts, Rests, brings_snapshot, turn_event};
 ghost use Rattle.node_actor.specs.Steps.{CarriesOut, fault_without_plan, may_advance};
 ghost use Rattle.node_actor.specs.Turns.{Reaches, StaysAt};
-ghost use Rattle.node_actor.specs.Views.{View, is_for};
+ghost use Rattle.node_actor.specs.Views.{View, is_for, is_snapshot};
 
 use actor_parts::{ActorFault, Parts};
 use mail_table::{Mail, NodeSeat};
 use paxos_node::{Event, NodeFault, Outcome};
-use paxos_packets::{Body, Packet};
+use paxos_packets::{Body, Kind, Packet};
 use replica_machine::Machine;
 use store_keeper::Keeper;
 
@@ -32,6 +32,7 @@ pub(crate) fn make_event<M: Machine, K: Keeper<M::Body>>(
     requires sound { IsSound M.Body.same K.holds K.is_failed parts.old }
     requires seated { IsSeated M.Body.same (acting parts.old seat.old) }
     requires own { parts.old.spoiled ≡ false → plans parts.old.node.me event.now parts.old.node.state ≡ true }
+    requires plain { brings_snapshot event.now ≡ false }
     requires received { Received seat.old.members seat.old.part event.now }
     ensures owned { Owns mail.now seat.new }
     ensures sound { IsSound M.Body.same K.holds K.is_failed parts.new }
@@ -93,7 +94,7 @@ pub(crate) fn pass<M: Machine, K: Keeper<M::Body>>(
     Ok(parts.silence())
 }
 
-// Hands the packet to the node, if it is for it and from another member.
+// Hands the packet to the node, if it is for it, from another member, and no snapshot.
 pub(crate) fn deliver<M: Machine, K: Keeper<M::Body>>(
     mail: &Mail<M::Body>,
     seat: &mut NodeSeat<M::Body>,
@@ -125,13 +126,21 @@ pub(crate) fn deliver<M: Machine, K: Keeper<M::Body>>(
     done
 }
 
-// Returns whether the packet is for this node, and from another member.
+// Returns whether the packet is for this node, from another member, and no snapshot: an actor cannot load one yet.
 fn is_for<M: Machine, K: Keeper<M::Body>>(parts: &Parts<M, K>, packet: &Packet<M::Body>) -> bool
     ensures { result ≡ is_for parts.now.waiting.me parts.now.waiting.members packet.now }
 {
     packet.addressee == parts.me()
         && parts.members().contains(packet.sender)
         && !(packet.sender == parts.me())
+        && !is_snapshot(&packet.kind)
+}
+
+// Returns whether it is a snapshot.
+fn is_snapshot<B: Body>(kind: &Kind<B>) -> bool
+    ensures { result ≡ is_snapshot kind.now }
+{
+    matches!(kind, Kind::Snapshot { .. })
 }
 
 // Carries out the outcome of a planned event, in this order:
@@ -158,6 +167,7 @@ fn carry_out<M: Machine, K: Keeper<M::Body>>(
     requires serving { parts.old.spoiled ≡ false }
     requires plan { IsPlan M.Body.same parts.old.node.me parts.old.node.members parts.old.node.state outcome }
     requires follows { Follows M.Body.same seat.old.members seat.old.part outcome }
+    requires plain { outcome.change.snapshot ≡ None }
     ensures owned { Owns mail.now seat.new }
     ensures sound { IsSound M.Body.same K.holds K.is_failed parts.new }
     ensures seated { IsSeated M.Body.same (acting parts.new seat.new) }

@@ -139,7 +139,8 @@ fn judge<Y: Drop>(fit: Fit, events: u64) -> Result<bool, ActorFault<Y>>
     }
 }
 
-// Creates empty outboxes, and begins a boot of the store. Returns its rows, and the outboxes.
+// Creates empty outboxes, and begins a boot of the store. Returns its rows, and the outboxes; `Damaged` if they have a snapshot, since an actor
+// cannot load one yet.
 fn boot_up<B: Body, K: Keeper<B>, Y: Drop>(
     alloc: Global,
     me: u8,
@@ -160,6 +161,13 @@ fn boot_up<B: Body, K: Keeper<B>, Y: Drop>(
     };
     match keeper.boot() {
         Err(fault) => Err(ActorFault::Keeper(fault)),
-        Ok(rows) => Ok((rows, outboxes)),
+        Ok(rows) => {
+            if rows.snapshot.is_some() {
+                drop(rows);
+                drop(outboxes);
+                return Err(ActorFault::Keeper(KeeperFault::Damaged));
+            }
+            Ok((rows, outboxes))
+        },
     }
 }

@@ -22,7 +22,7 @@ use store_keeper::{Keeper, KeeperFault};
 impl<M: Machine, K: Keeper<M::Body>> Actor<M, K> {
     /// Opens a node that was never opened, at its seat: begins a boot in the store, and the node of this number, of these members, has the
     /// store's rows; the machine is to follow its log. After a fault the store is handed back, and a post by which `restart` opens the
-    /// node. Never `KeeperFault::Damaged` if the store holds rows and returns what was written.
+    /// node. Never `KeeperFault::Damaged` if the store holds rows without a snapshot and returns what was written.
     pub fn open(
         alloc: Global,
         mail: &Mail<M::Body>,
@@ -43,7 +43,7 @@ impl<M: Machine, K: Keeper<M::Body>> Actor<M, K> {
         ensures first { IfOk result (OpensFirst K.holds me seat) }
         ensures refuses { IfErr result (λ left. Refuses M.Body.same K.holds K.finds K.is_faithful K.failures
             (record { me = me; members = members; rows = None; failed = None; seat = seat }) keeper left.2 left.0) }
-        ensures sound { (r : Rows M.Body) → K.holds keeper r → IfErr result (λ left.
+        ensures sound { (r : Rows M.Body) → K.holds keeper r → r.snapshot ≡ None → IfErr result (λ left.
             K.is_faithful left.2 → left.0 ≡ ActorFault.Keeper KeeperFault.Damaged → ⊥) }
         ensures shuts { IfErr result (λ left. Shuts K.holds K.finds K.is_faithful K.failures
             (record { me = me; members = members; rows = None; failed = None; seat = seat }) keeper left.0 left.1 left.2) }
@@ -58,9 +58,9 @@ impl<M: Machine, K: Keeper<M::Body>> Actor<M, K> {
     /// never opened; otherwise takes the step of the event whose commit failed, if the store has the rows that it was to leave, and begins
     /// the next boot.
     ///
-    /// `KeeperFault::Damaged` if the store has other rows than the node had, and than the failed commit was to leave, and never otherwise
-    /// if the store returns what was written; no boot is begun then. `Worn` if the node's word cannot count more events. After a fault the
-    /// post and the store are handed back, and serve again.
+    /// `KeeperFault::Damaged` if the store has other rows than the node had, and than the failed commit was to leave, and no boot is begun
+    /// then; or after the boot, if its rows have a snapshot, which an actor cannot load yet. Never otherwise if the store returns what was
+    /// written. `Worn` if the node's word cannot count more events. After a fault the post and the store are handed back, and serve again.
     pub fn restart(
         alloc: Global,
         mail: &Mail<M::Body>,

@@ -113,7 +113,7 @@ returns-in-Ok-commit-clause-sound g c =
     sound_on g.M.Machine.steps g.M.Machine.content g.K.Keeper.holds g.K.Keeper.finds
     g.K.Keeper.failures g.K.Keeper.is_failed
     g.M.Body.Body.same c.args.outcome c.args.parts.now c.commit.new.self c.take_over.new.self c.args.seat.now c.requires.sound serving
-    is_ready
+    is_ready c.requires.plain
     c.take_over.ensures.who c.take_over.result c.take_over.ensures.follows
 
 pub returns-in-Ok-commit-clause-seated : goal.returns-in-Ok-commit-clause-seated

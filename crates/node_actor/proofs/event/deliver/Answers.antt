@@ -1,6 +1,7 @@
 use Rattle.std.proofs.Common.{◌≡◌, true, false, Some, None, sym, ◌∙◌, refl, rules}
 use Rattle.paxos_node.specs.declared.event.Event.TheVariants.{Deliver}
 use Rattle.node_actor.proofs.Viewing.{acts_by, none_in, event_in, addressed, plans_own}
+use Rattle.node_actor.proofs.Plain.{handed_plain}
 use Rattle.node_actor.proofs.event.deliver.Goals as goal
 
 pub returns-then-not-is_for-clause-acts : goal.returns-then-not-is_for-clause-acts
@@ -14,6 +15,11 @@ make_event-done-requires-clause-own g c = λ fresh.
     let on : c.is_for.result ≡ true = search rules in
     plans_own _ _ _ c.args.parts.now (Deliver c.args.packet) c.requires.sound fresh
     (addressed c.args.parts.now c.args.packet (sym c.is_for.ensures ∙ on)) refl (λ up. up)
+
+pub make_event-done-requires-clause-plain : goal.make_event-done-requires-clause-plain
+make_event-done-requires-clause-plain g c =
+    let on : c.is_for.result ≡ true = search rules in
+    handed_plain c.args.parts.now.waiting.me c.args.parts.now.waiting.members c.args.packet (sym c.is_for.ensures ∙ on)
 
 pub returns-clause-acts : goal.returns-clause-acts
 returns-clause-acts g c =

@@ -6,6 +6,7 @@ use Rattle.paxos_node.specs.Events.{outcome_of, is_round_refused, is_full_refuse
 use Rattle.paxos_node.specs.declared.fault.NodeFault.TheVariants as node_fault
 use Rattle.node_actor.proofs.Seating.{seated_spoiled}
 use Rattle.node_actor.proofs.Viewing.{acts_of, disagree_acts, memory_acts, follows_plan, shorts, told_disagree, told_memory}
+use Rattle.node_actor.proofs.Plain.{plain_plan}
 use Rattle.node_actor.proofs.event.make_event.Goals as goal
 
 pub carry_out-requires-clause-plan : goal.carry_out-requires-clause-plan
@@ -19,6 +20,12 @@ carry_out-requires-clause-follows g c =
     follows_plan g.M.Body.Body.same c.args.event.now c.in-Ok.outcome c.args.parts.now c.args.seat.now (c.requires.own fresh)
     c.in-Ok.ensures.planned.3
     c.requires.seated c.requires.received
+
+pub carry_out-requires-clause-plain : goal.carry_out-requires-clause-plain
+carry_out-requires-clause-plain g c =
+    let fresh : c.args.parts.now.spoiled ≡ false = search rules in
+    plain_plan g.M.Body.Body.same c.args.parts.now.node.me c.args.parts.now.node.members c.args.event.now c.args.parts.now.node.state
+    c.in-Ok.outcome (c.requires.sound.serves fresh).up (c.requires.own fresh) c.requires.plain c.in-Ok.ensures.planned.3
 
 pub returns-in-Ok-clause-acts : goal.returns-in-Ok-clause-acts
 returns-in-Ok-clause-acts g c = λ view reach.

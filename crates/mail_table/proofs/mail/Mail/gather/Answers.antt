@@ -5,7 +5,7 @@ use Rattle.mail_table.proofs.mail.Mail.gather.Goals as goal
 pub returns-clause-logs : goal.returns-clause-logs
 returns-clause-logs g c =
     logs_agree g.B.Body.same c.args.self.members (record { reflexive = g.met.B.Body.reflexive; sound = g.met.B.Body.sound })
-    c.has_all.ensures.least
+    c.has_all.ensures.least c.has_all.ensures.most
     (parts_of c.args.seats.items) c.collect.ensures
 
 pub returns-clause-learners : goal.returns-clause-learners

@@ -3,6 +3,7 @@ use Rattle.std.specs.Prelude.{option_to_list}
 use Rattle.node_actor.specs.Actor.{Acting, acting}
 use Rattle.node_actor.specs.Calls.{is_own}
 use Rattle.node_actor.proofs.Viewing.{plans_event, owned_event, acts_seen}
+use Rattle.node_actor.proofs.Plain.{own_plain}
 use Rattle.node_actor.proofs.actor.Actor.event.Goals as goal
 
 pub make_event-requires-clause-own : goal.make_event-requires-clause-own
@@ -10,6 +11,9 @@ make_event-requires-clause-own g c = λ fresh.
     plans_event _ _ _ c.self.inside.parts c.args.event.now c.self.invariant.0 fresh
     (subst (λ (a : Acting g.row.M-Body.Denot g.row.M.Denot g.row.K.Denot). is_own a.node.me c.args.event.now ≡ true) (sym c.self.view_is)
     c.requires.own)
+
+pub make_event-requires-clause-plain : goal.make_event-requires-clause-plain
+make_event-requires-clause-plain g c = own_plain c.args.self.now.node.me c.args.event.now c.requires.own
 
 pub returns-clause-acts : goal.returns-clause-acts
 returns-clause-acts g c =
