@@ -5,19 +5,18 @@ use Rattle.std.specs.Io.KnownBytes.{Appends, IsAtEnd}
 use Rattle.std.proofs.KnownBytes.{Appends-nil, Appends-trans}
 use Rattle.paxos_packets.specs.declared.transport.Transport.{Transport}
 use Rattle.realm_acts.specs.declared.act.Act.{Act}
-use Rattle.realm_acts.specs.Act.{same_act}
 use Rattle.realm_machine.specs.declared.sayings.say.Say.{Say}
 use Rattle.realm_machine.specs.Config.{Config}
 use Rattle.realm_machine.specs.Machine.{realm_of}
 use Rattle.realm_machine.specs.Laws.{live_realm}
 use Rattle.cluster_world.specs.Has.{Has}
 use Rattle.cluster_world.specs.Told.{WereHanded}
-use Rattle.cluster_world.specs.World.{World, played}
+use Rattle.cluster_world.specs.World.{World}
 use Rattle.script_program.specs.declared.lines.line.Line.{Line}
 use Rattle.script_program.specs.declared.lines.LinesFault.{LinesFault}
 use Rattle.script_program.specs.declared.lines.LinesFault.TheVariants as lines
 use Rattle.script_program.specs.Lines.{script_of, FailsBy}
-use Rattle.script_program.specs.Playing.{HandsOutAsRealm, events_of}
+use Rattle.script_program.specs.Playing.{HandsOutAsRealm, events_of, world_behind}
 use Rattle.script_program.specs.declared.fault.ScriptFault.{ScriptFault}
 use Rattle.script_program.specs.declared.fault.ScriptFault.TheVariants as fault
 use Rattle.script_program.specs.Reading.{WereRead, StopsBy}
@@ -54,27 +53,27 @@ as_realm alike config w told p = record {
 
 module _ (alike : HandsOutAsRealm) (config : Config) (members m : ℕ) (ls : List Line) (same : m ≡ members)
     (told : List (Transport × List Say))
-    (were : WereHanded (live_realm config) (played same_act m (events_of members ls)) told) where
+    (were : WereHanded (live_realm config) (world_behind config m (events_of config members ls)) told) where
   abbrev the_text : List ℕ
-  the_text = world_text members (world_of members ls) told
+  the_text = world_text members (world_of config members ls) told
 
   is_text : IsTextOf config members ls the_text
   is_text = record {
     told = told;
-    were_handed = as_realm alike config (world_of members ls) told
-        (subst (λ (k : ℕ). WereHanded (live_realm config) (played same_act k (events_of members ls)) told) same were);
+    were_handed = as_realm alike config (world_of config members ls) told
+        (subst (λ (k : ℕ). WereHanded (live_realm config) (world_behind config k (events_of config members ls)) told) same were);
     is_text = refl;
   }
 
   module _ (old mid : Option (List ℕ)) (waited between : List ℕ) where
     abbrev PrintsNodes : Result (Unit {0}) ScriptFault → ℕ → Type 0
-    PrintsNodes result k = Prints result old mid waited between (nodes_text members (played same_act k (events_of members ls)))
+    PrintsNodes result k = Prints result old mid waited between (nodes_text members (world_behind config k (events_of config members ls)))
 
     pub world_wrong : (f : ScriptFault) → PrintsNodes (Err f) m → PrintsSome (IsTextOf config members ls) (Err f) old mid waited between
     world_wrong f p = (
       the_text,
       is_text,
-      prints_part f old mid waited between (nodes_text members (world_of members ls)) (told_text told) the_text refl
+      prints_part f old mid waited between (nodes_text members (world_of config members ls)) (told_text told) the_text refl
           (subst (PrintsNodes (Err f)) same p),
     )
 
@@ -83,7 +82,7 @@ module _ (alike : HandsOutAsRealm) (config : Config) (members m : ℕ) (ls : Lis
     world_printed p result new waits q = (
       the_text,
       is_text,
-      prints_then old mid waited between (nodes_text members (world_of members ls)) (told_text told)
+      prints_then old mid waited between (nodes_text members (world_of config members ls)) (told_text told)
           (subst (PrintsNodes (Ok tt)) same p) result
           new waits q,
     )

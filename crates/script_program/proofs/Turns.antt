@@ -21,12 +21,11 @@ use Rattle.script_program.specs.declared.lines.line.Line.{Line}
 use Rattle.script_program.specs.declared.lines.line.Line.TheVariants as line
 use Rattle.script_program.specs.Waiting as waiting
 use Rattle.cluster_world.specs.Scripts.{Stage, first_stage, first_due, deliver, deliver_no, deliver_first, flush, most_deliveries}
-use Rattle.cluster_world.specs.Scripts.{take_line, stage_behind}
-use Rattle.realm_snapshot.specs.Snapshot.{loaded}
-use Rattle.cluster_world.specs.StandsAt.{HaveContent, StandsAt}
-use Rattle.cluster_world.specs.World.{played}
+use Rattle.cluster_world.specs.Scripts.{take_line}
+use Rattle.realm_snapshot.specs.Writing.{saved}
+use Rattle.cluster_world.specs.StandsAt.{HaveContent}
 use Rattle.script_program.specs.declared.player.Player.{Player}
-use Rattle.script_program.specs.Playing.{in_script, script_of}
+use Rattle.script_program.specs.Playing.{IsBehind, in_script, script_of, stage_behind, world_behind}
 use Rattle.script_program.specs.Player.{IsAt, DeliversFirst, IsFlushing, first_realm, send_if, send_all, waits_from}
 use Rattle.script_program.proofs.Dues.{Finds, finds}
 
@@ -46,7 +45,7 @@ put_realm config realms new realm of put named is content all =
 
 -- a player before the first line
 pub begins : (config : Config) (members : ℕ) (p : Player) → p.world.members ≡ members
-    → StandsAt same_act live_of loaded (live_realm config) p.world []
+    → IsBehind config p.world []
     → p.waiting.members ≡ members → p.waiting.sent ≡ [] → IsAt config members p (first_stage members)
 begins config members p are stands few none =
     record { members_are = are; stands = stands; is_played = refl; few = few; waits = none; fresh = λ number l. refl }
@@ -78,15 +77,15 @@ pub send_ends : (place : ℕ) (sent : List (Packet Act)) (w all : waiting.Packet
 send_ends place sent w all past rest = sym (ap (λ ps. send_all ps w) (drop_of_length-le sent past)) ∙ rest
 
 pub sent_is : (config : Config) (members : ℕ) (p : Player) (s : Stage Act) → IsAt config members p s
-    → (played same_act p.world.members s.events).sent ≡ s.world.sent
-sent_is config members p s at = ap (λ k. (played same_act k s.events).sent) at.members_are ∙ sym (ap (λ w. w.sent) at.is_played)
+    → (world_behind config p.world.members s.events).sent ≡ s.world.sent
+sent_is config members p s at = ap (λ k. (world_behind config k s.events).sent) at.members_are ∙ sym (ap (λ w. w.sent) at.is_played)
 
 -- ---- a delivery by number
 
-pub at_number : (members place : ℕ) (s : Stage Act)
-    → stage_behind same_act members (in_script (line.Deliver (suc place))) s
+pub at_number : (config : Config) (members place : ℕ) (s : Stage Act)
+    → stage_behind config members (in_script (line.Deliver (suc place))) s
     ≡ deliver_no same_act members (place + 1) (slice_get s.world.sent place) s
-at_number members place s = λ i. deliver_no same_act members (number i) (slice_get s.world.sent (below i)) s
+at_number config members place s = λ i. deliver_no same_act members (number i) (slice_get s.world.sent (below i)) s
   where
     number : suc place ≡ place + 1
     number = omega arith
@@ -165,13 +164,13 @@ flush_stops config members among (suc k) turn p whole past e f = absurd (omega (
 
 -- ---- all lines
 
-pub line_more : (members : ℕ) (lines : List Line) (i : ℕ) (x : Line) (s : Stage Act) → i < length lines → x ≡ get_or lines i x
-    → stage_behind same_act members (in_script x) (stage_behind same_act members (script_of (take i lines)) s)
-    ≡ stage_behind same_act members (script_of (take (i + 1) lines)) s
-line_more members lines i x s within is = sym (
-    ap (λ ls. stage_behind same_act members (script_of ls) s)
+pub line_more : (config : Config) (members : ℕ) (lines : List Line) (i : ℕ) (x : Line) (s : Stage Act) → i < length lines → x ≡ get_or lines i x
+    → stage_behind config members (in_script x) (stage_behind config members (script_of (take i lines)) s)
+    ≡ stage_behind config members (script_of (take (i + 1) lines)) s
+line_more config members lines i x s within is = sym (
+    ap (λ ls. stage_behind config members (script_of ls) s)
     ((take_at_read lines i x within).1 ∙ ap (λ y. take i lines ++ y ∷ []) (sym is))
-    ∙ ap (λ ls. stage_behind same_act members ls s)
+    ∙ ap (λ ls. stage_behind config members ls s)
     (flat_map-append in_script (take i lines) (x ∷ []) ∙ ap (λ ls. script_of (take i lines) ++ ls) (append-nil (in_script x)))
-    ∙ fold-append (take_line same_act members) s (script_of (take i lines)) (in_script x)
+    ∙ fold-append (take_line saved (live_realm config) same_act members) s (script_of (take i lines)) (in_script x)
     )

@@ -19,7 +19,7 @@ abbrev pub no_events : List (List ℕ)
 no_events =
     codes "take 1 0 connect" ∷ codes "take 1 4294967296 connect" ∷ codes "take 4 1 connect" ∷ codes "take 1 1 say" ∷ codes "take 1 1 connect "
     ∷ codes "take 01 1 connect" ∷ codes "tick  1" ∷ (codes "tick 1" ++ 13 ∷ []) ∷ codes "deliver 0" ∷ codes "deliver 18446744073709551616"
-    ∷ codes "flush " ∷ codes "flush 4" ∷ codes " " ∷ codes "jump 1" ∷ (codes "tick 1" ++ 255 ∷ []) ∷ []
+    ∷ codes "cut" ∷ codes "cut 1 2" ∷ codes "flush " ∷ codes "flush 4" ∷ codes " " ∷ codes "jump 1" ∷ (codes "tick 1" ++ 255 ∷ []) ∷ []
 
 -- an event, an empty line, and a line that is not an event
 abbrev pub bad_third : List ℕ

@@ -86,10 +86,11 @@ other_line members verb ws =
     else (if bytes_eq verb (codes "start") then option_map (λ n. line.Start n) (one_in members ws)
     else (if bytes_eq verb (codes "suspect") then suspect_in members ws
     else (if bytes_eq verb (codes "deliver") then option_map (λ p. line.Deliver p) (one_in last_packet ws)
+    else (if bytes_eq verb (codes "cut") then option_map (λ n. line.Cut n) (one_in members ws)
     else (if bytes_eq verb (codes "crash") then option_map (λ n. line.Crash n) (one_in members ws)
     else (if bytes_eq verb (codes "restart") then option_map (λ n. line.Restart n) (one_in members ws)
     else (if bytes_eq verb (codes "flush") then option_map (λ among. line.Flush among) (among_in members ws)
-    else None))))))
+    else None)))))))
 
 abbrev pub line_by : ℕ → ℕ → List ℕ → List (List ℕ) → Option Line
 line_by members draw verb ws = if bytes_eq verb (codes "take") then take_in members draw ws else other_line members verb ws

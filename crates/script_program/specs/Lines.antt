@@ -26,6 +26,7 @@ draw_behind draw (line.Tick n) = draw
 draw_behind draw (line.Start n) = draw
 draw_behind draw (line.Suspect n k) = draw
 draw_behind draw (line.Deliver p) = draw
+draw_behind draw (line.Cut n) = draw
 draw_behind draw (line.Crash n) = draw
 draw_behind draw (line.Restart n) = draw
 draw_behind draw (line.Flush among) = draw

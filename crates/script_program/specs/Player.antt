@@ -7,15 +7,11 @@ use Rattle.realm_acts.specs.Act.{same_act}
 use Rattle.realm_machine.specs.Config.{Config}
 use Rattle.realm_machine.specs.Content.{empty}
 use Rattle.realm_machine.specs.Realm.{State}
-use Rattle.realm_machine.specs.Machine.{live_of}
-use Rattle.realm_machine.specs.Laws.{live_realm}
 use Rattle.script_program.specs.declared.player.waiting.Sent.{Sent}
 use Rattle.script_program.specs.Waiting.{Packets, with_sent}
 use Rattle.cluster_world.specs.Scripts.{Stage, is_delivered, first_due, deliver, flush}
-use Rattle.realm_snapshot.specs.Snapshot.{loaded}
-use Rattle.cluster_world.specs.StandsAt.{StandsAt}
-use Rattle.cluster_world.specs.World.{played}
 use Rattle.script_program.specs.declared.player.Player.{Player}
+use Rattle.script_program.specs.Playing.{IsBehind, world_behind}
 
 -- a realm without transports
 abbrev pub first_realm : Config → State
@@ -31,8 +27,8 @@ waits_from number delivered sent = map (wait_of delivered) (enumerate_from numbe
 -- the player's world is where the script is, and what waits are the packets that this world has sent
 pub record IsAt (config : Config) (members : ℕ) (p : Player) (s : Stage Act) : Type 0 where
   pub members_are : p.world.members ≡ members
-  pub stands : StandsAt same_act live_of loaded (live_realm config) p.world s.events
-  pub is_played : s.world ≡ played same_act members s.events
+  pub stands : IsBehind config p.world s.events
+  pub is_played : s.world ≡ world_behind config members s.events
   pub few : p.waiting.members ≡ members
   pub waits : p.waiting.sent ≡ waits_from 1 s.delivered s.world.sent
   pub fresh : (number : ℕ) → length s.world.sent < number → is_delivered s.delivered number ≡ false

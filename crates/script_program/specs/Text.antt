@@ -1,5 +1,5 @@
 -- The lines of a world's text, as a script's run writes them (docs/SCRIPTS.md, "What is printed").
-use Rattle.std.specs.Prelude.{ℕ, ◌+◌, Bool, true, false, List, [], ◌∷◌, ◌++◌, codes}
+use Rattle.std.specs.Prelude.{ℕ, ◌+◌, ◌==◌, Bool, true, false, List, [], ◌∷◌, ◌++◌, codes, drop, if◌then◌else◌}
 use Rattle.std.specs.Fmt.{decimal}
 use Rattle.std.specs.List.{flat_map}
 use Rattle.paxos_packets.specs.declared.entry.Entry.{Entry}
@@ -36,18 +36,26 @@ log_from slot [] took = []
 log_from slot (e ∷ es) [] = []
 log_from slot (e ∷ es) (took ∷ others) = entry_text slot e took ++ log_from (slot + 1) es others
 
--- a whole log, slot 1 first
-abbrev pub log_text : {B : Type 0} → List (Entry B) → List ℕ
-log_text log = log_from 1 log (effects log)
+-- a node's floor; none is written without a snapshot
+abbrev pub floor_text : ℕ → List ℕ
+floor_text floor = if floor == 0 then [] else decimal floor ++ (codes " snapshot" ++ 10 ∷ [])
 
--- ---- a node; the log of one that is down is empty
+-- a whole log: its floor, and then its entries above that, slot by slot
+abbrev pub log_text : {B : Type 0} → ℕ → List (Entry B) → List ℕ
+log_text floor log = floor_text floor ++ log_from (floor + 1) (drop floor log) (drop floor (effects log))
+
+-- ---- a node; of one that is down this is all
 
 abbrev pub up_text : Bool → List ℕ
 up_text true = codes " up"
 up_text false = codes " down"
 
-abbrev pub node_text : {B : Type 0} → ℕ → Bool → List (Entry B) → List ℕ
-node_text n up log = codes "node" ++ (numbers_text (n ∷ []) ++ (up_text up ++ (10 ∷ log_text log)))
+abbrev pub first_text : ℕ → Bool → List ℕ
+first_text n up = codes "node" ++ (numbers_text (n ∷ []) ++ (up_text up ++ 10 ∷ []))
+
+-- with its floor and its whole log
+abbrev pub node_text : {B : Type 0} → ℕ → Bool → ℕ → List (Entry B) → List ℕ
+node_text n up floor log = first_text n up ++ (if up then log_text floor log else [])
 
 -- ---- what a transport was handed
 

@@ -119,6 +119,7 @@ fn draw_behind(draw: Id, line: &Line) -> Id
         | Line::Start { .. }
         | Line::Suspect { .. }
         | Line::Deliver { .. }
+        | Line::Cut { .. }
         | Line::Crash { .. }
         | Line::Restart { .. }
         | Line::Flush { .. } => draw,

@@ -5,14 +5,9 @@ ghost use Rattle.paxos_node.specs.declared.event.Event.TheVariants as happens;
 ghost use Rattle.realm_acts.specs.declared.act.Act as acted;
 ghost use Rattle.realm_acts.specs.Act.{same_act};
 ghost use Rattle.realm_machine.specs.Config.{Config};
-ghost use Rattle.realm_machine.specs.Laws.{live_realm};
-ghost use Rattle.realm_machine.specs.Machine.{live_of};
 ghost use Rattle.script_program.specs.declared.lines.line.Line.TheVariants as line;
-ghost use Rattle.cluster_world.specs.Scripts.{Stage, first_stage, happen, deliver_no, flush, most_deliveries, stage_behind};
-ghost use Rattle.realm_snapshot.specs.Snapshot.{loaded};
-ghost use Rattle.cluster_world.specs.StandsAt.{StandsAt};
-ghost use Rattle.cluster_world.specs.World.{played};
-ghost use Rattle.script_program.specs.Playing.{IsPlayed, in_script, script_of};
+ghost use Rattle.cluster_world.specs.Scripts.{Stage, first_stage, deliver_no, flush, most_deliveries};
+ghost use Rattle.script_program.specs.Playing.{IsBehind, IsPlayed, happen, in_script, script_of, stage_behind, world_behind};
 ghost use Rattle.script_program.specs.Player.{IsAt, DeliversFirst, send_all, send_if};
 
 mod queue;
@@ -91,7 +86,7 @@ impl Player {
     // Plays all lines, in order.
     fn take_all(&mut self, lines: &[Line]) -> Result<(), Memory>
         ensures { (config : Config) (members : ℕ) (s : Stage acted.Act) → IsAt config members self.old s →
-            OnOk result (IsAt config members self.new (stage_behind same_act members (script_of lines.now) s)) }
+            OnOk result (IsAt config members self.new (stage_behind config members (script_of lines.now) s)) }
     {
         for line in lines {
             self.take(line)?;
@@ -102,7 +97,7 @@ impl Player {
     // Plays one line.
     fn take(&mut self, line: &Line) -> Result<(), Memory>
         ensures { (config : Config) (members : ℕ) (s : Stage acted.Act) → IsAt config members self.old s →
-            OnOk result (IsAt config members self.new (stage_behind same_act members (in_script line.now) s)) }
+            OnOk result (IsAt config members self.new (stage_behind config members (in_script line.now) s)) }
     {
         match line {
             Line::Take { node, number, act } => self.take_act(*node, *number, act),
@@ -113,6 +108,10 @@ impl Player {
                 other: *other,
             }),
             Line::Deliver { packet } => self.deliver_no(*packet),
+            Line::Cut { node } => self.happen(Event::Cut {
+                node: *node,
+                snapshot: None,
+            }),
             Line::Crash { node } => self.happen(Event::Crash { node: *node }),
             Line::Restart { node } => self.happen(Event::Restart { node: *node }),
             Line::Flush { among } => self.flush(*among),
@@ -122,7 +121,7 @@ impl Player {
     // Lets the node take a copy of the act.
     fn take_act(&mut self, node: u8, number: u32, act: &Act) -> Result<(), Memory>
         ensures { (config : Config) (members : ℕ) (s : Stage acted.Act) → IsAt config members self.old s →
-            OnOk result (IsAt config members self.new (happen same_act members (happens.Take node number act.now) s)) }
+            OnOk result (IsAt config members self.new (happen config members (happens.Take node number act.now) s)) }
     {
         let Ok(body) = act.copy(self.alloc) else {
             return Err(Memory);
@@ -137,7 +136,7 @@ impl Player {
     // Lets one event happen, and adds the packets that it sends to those that wait.
     fn happen(&mut self, event: Event<Act>) -> Result<(), Memory>
         ensures { (config : Config) (members : ℕ) (s : Stage acted.Act) → IsAt config members self.old s →
-            OnOk result (IsAt config members self.new (happen same_act members event s)) }
+            OnOk result (IsAt config members self.new (happen config members event s)) }
     {
         let events = [event];
         let ran = self.world.run(&events);
@@ -151,7 +150,7 @@ impl Player {
     // Delivers the packet with this number, counted from 1, if it was sent.
     fn deliver_no(&mut self, number: u64) -> Result<(), Memory>
         ensures { (config : Config) (members : ℕ) (s : Stage acted.Act) → IsAt config members self.old s →
-            OnOk result (IsAt config members self.new (stage_behind same_act members (in_script (line.Deliver number)) s)) }
+            OnOk result (IsAt config members self.new (stage_behind config members (in_script (line.Deliver number)) s)) }
     {
         match number.checked_sub(1) {
             Some(place) => self.deliver_at(place as usize),
@@ -209,7 +208,7 @@ fn first_world(
     limits: Limits,
 ) -> Result<World<KeptRealm>, Memory>
     ensures members { IfOk result (λ w. w.members ≡ members) }
-    ensures stands { IfOk result (λ w. StandsAt same_act live_of loaded (live_realm (record { name = realm.now; limits = limits })) w []) }
+    ensures stands { IfOk result (λ w. IsBehind (record { name = realm.now; limits = limits }) w []) }
 {
     let realms = realms_of(alloc, members, realm, limits)?;
     World::new(alloc, members, realms)
@@ -218,8 +217,8 @@ fn first_world(
 // Adds the packets that the world has sent since the last call to those that wait.
 fn send_new(world: &World<KeptRealm>, waiting: &mut Waiting) -> Result<(), Memory>
     ensures { (config : Config) (es : List (occurred.Event acted.Act)) →
-        StandsAt same_act live_of loaded (live_realm config) world.now es →
-        OnOk result (waiting.new ≡ send_all (drop (length waiting.old.sent) (played same_act world.now.members es).sent) waiting.old) }
+        IsBehind config world.now es →
+        OnOk result (waiting.new ≡ send_all (drop (length waiting.old.sent) (world_behind config world.now.members es).sent) waiting.old) }
 {
     for place in waiting.count()..world.sent() {
         send(packet_at(world, place), waiting)?;
@@ -230,8 +229,8 @@ fn send_new(world: &World<KeptRealm>, waiting: &mut Waiting) -> Result<(), Memor
 // Returns the packet at this place, counted from 0 over all that were ever sent, or `None`.
 fn packet_at(world: &World<KeptRealm>, place: usize) -> Option<&Packet<Act>>
     ensures { (config : Config) (es : List (occurred.Event acted.Act)) →
-        StandsAt same_act live_of loaded (live_realm config) world.now es →
-        option_copied result ≡ slice_get (played same_act world.now.members es).sent place }
+        IsBehind config world.now es →
+        option_copied result ≡ slice_get (world_behind config world.now.members es).sent place }
 {
     if place < world.sent() {
         world.packet(place + 1)

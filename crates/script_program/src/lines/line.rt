@@ -24,6 +24,8 @@ pub enum Line {
     Suspect { node: u8, other: u8 },
     /// The packet with this number, counted from 1 over all that were ever sent, reaches its addressee.
     Deliver { packet: u64 },
+    /// The node cuts its log: it keeps what its realm saves, and forgets the entries.
+    Cut { node: u8 },
     /// The node goes down.
     Crash { node: u8 },
     /// The node comes back.
@@ -44,6 +46,7 @@ impl Drop for Line {
             Line::Start { node: _ } => {},
             Line::Suspect { node: _, other: _ } => {},
             Line::Deliver { packet: _ } => {},
+            Line::Cut { node: _ } => {},
             Line::Crash { node: _ } => {},
             Line::Restart { node: _ } => {},
             Line::Flush { among: _ } => {},
@@ -99,6 +102,9 @@ fn other_line(members: Members, verb: &str, rest: Option<&str>) -> Option<Line>
         "suspect" => suspect_in(members, rest),
         "deliver" => Some(Line::Deliver {
             packet: one_in(u64::MAX, rest)?,
+        }),
+        "cut" => Some(Line::Cut {
+            node: one_node(members, rest)?,
         }),
         "crash" => Some(Line::Crash {
             node: one_node(members, rest)?,

@@ -1,44 +1,74 @@
 // Writes the text of a world, line by line.
-ghost use Rattle.std.specs.Prelude.{map};
-ghost use Rattle.script_program.specs.Text.{entry_text, log_text, node_text, said_text, handed_text};
+ghost use Rattle.std.specs.Prelude.{◌≡◌, ◌+◌, ◌<◌, ◌^◌, ◌++◌, List, length, map};
+ghost use Rattle.paxos_packets.specs.declared.entry.Entry as entries;
+ghost use Rattle.replica_machine.specs.Effects.{effects_from};
+ghost use Rattle.replica_machine.specs.Roll.{IsRollOf};
+ghost use Rattle.script_program.specs.Text.{entry_text, first_text, floor_text, log_from, log_text, said_text, handed_text};
 ghost use Rattle.script_program.specs.Printing.{Prints};
 
 use crate::fault::ScriptFault;
 use crate::text::page::write_full;
-use crate::text::put::{put_entry, put_node, put_said};
+use crate::text::put::{put_entry, put_floor, put_node, put_said};
 use paxos_packets::{Entry, Transport};
 use realm_machine::{Out, Say};
 use replica_machine::Roll;
 use replica_machine::laws::effects;
 use std::io::Write;
 
-// Writes a node's first line and its log.
-pub(crate) fn print_node<B, W: Write>(
+// Writes a node's first line.
+pub(crate) fn print_first<W: Write>(
     writer: &mut W,
     out: &mut Vec<u8>,
     node: u8,
     is_up: bool,
-    log: &[Entry<B>],
 ) -> Result<(), ScriptFault>
-    ensures { Prints result (W.contents writer.old) (W.contents writer.new) out.old.items out.new.items
-        (node_text node is_up log.now) }
+    ensures { Prints result (W.contents writer.old) (W.contents writer.new) out.old.items out.new.items (first_text node is_up) }
 {
     put_node(out, node, is_up)?;
-    print_log(writer, out, log)
+    write_full(writer, out)
 }
 
-// Writes the lines of a log, slot 1 first.
-fn print_log<B, W: Write>(
+// Writes the lines of a log: its floor, and its entries above that. The roll says where the nodes stand at the floor.
+pub(crate) fn print_log<B, W: Write>(
     writer: &mut W,
     out: &mut Vec<u8>,
+    floor: u64,
+    at_floor: Roll,
     log: &[Entry<B>],
 ) -> Result<(), ScriptFault>
-    ensures { Prints result (W.contents writer.old) (W.contents writer.new) out.old.items out.new.items (log_text log.now) }
+    requires low { floor < 2 ^ 40 }
+    ensures { (under : List (entries.Entry B)) → length under ≡ floor → IsRollOf under at_floor →
+        Prints result (W.contents writer.old) (W.contents writer.new) out.old.items out.new.items
+        (log_text floor (under ++ log.now)) }
+{
+    print_floor(writer, out, floor)?;
+    print_entries(writer, out, floor, at_floor, log)
+}
+
+fn print_floor<W: Write>(writer: &mut W, out: &mut Vec<u8>, floor: u64) -> Result<(), ScriptFault>
+    ensures { Prints result (W.contents writer.old) (W.contents writer.new) out.old.items out.new.items (floor_text floor) }
+{
+    put_floor(out, floor)?;
+    write_full(writer, out)
+}
+
+// Writes the lines of the entries above a floor, slot by slot.
+fn print_entries<B, W: Write>(
+    writer: &mut W,
+    out: &mut Vec<u8>,
+    floor: u64,
+    at_floor: Roll,
+    log: &[Entry<B>],
+) -> Result<(), ScriptFault>
+    requires low { floor < 2 ^ 40 }
+    ensures { (under : List (entries.Entry B)) → IsRollOf under at_floor →
+        Prints result (W.contents writer.old) (W.contents writer.new) out.old.items out.new.items
+        (log_from (floor + 1) log.now (effects_from under log.now)) }
 {
     // for the proof
     effects::<B>();
-    let mut roll = Roll::new();
-    let mut slot: u64 = 0;
+    let mut roll = at_floor;
+    let mut slot = floor;
     for entry in log {
         slot += 1;
         let took = roll.take(entry);

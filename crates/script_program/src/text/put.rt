@@ -1,7 +1,7 @@
 // Appends the lines of a text to a buffer. If memory runs out, the buffer ends with the beginning of the line.
 ghost use Rattle.std.specs.Prelude.{◌≡◌, ◌++◌, ◌∷◌, [], List, ◌<◌, ◌^◌, length, codes, OnOk};
 ghost use Rattle.std.specs.Fmt.{decimal};
-ghost use Rattle.script_program.specs.Text.{numbers_text, named_text, entry_text, effect_text, up_text, out_text, said_text};
+ghost use Rattle.script_program.specs.Text.{numbers_text, named_text, entry_text, floor_text, first_text, effect_text, out_text, said_text};
 
 use itoa::Buffer;
 use paxos_packets::{Entry, Memory, Transport};
@@ -42,9 +42,21 @@ pub(crate) fn put_entry<B>(
     }
 }
 
+// Appends the line of a node's floor, if there is one.
+pub(crate) fn put_floor(out: &mut Vec<u8>, floor: u64) -> Result<(), Memory>
+    ensures { OnOk result (out.new.items ≡ out.old.items ++ floor_text floor) }
+{
+    if floor == 0 {
+        return Ok(());
+    }
+    put_number(out, floor)?;
+    out.extend_from_slice(b" snapshot\n")?;
+    Ok(())
+}
+
 // Appends the first line of a node.
 pub(crate) fn put_node(out: &mut Vec<u8>, node: u8, is_up: bool) -> Result<(), Memory>
-    ensures { OnOk result (out.new.items ≡ out.old.items ++ (codes "node" ++ (numbers_text (node ∷ []) ++ (up_text is_up ++ 10 ∷ [])))) }
+    ensures { OnOk result (out.new.items ≡ out.old.items ++ first_text node is_up) }
 {
     out.extend_from_slice(b"node")?;
     put_numbers(out, &[u64::from(node)])?;

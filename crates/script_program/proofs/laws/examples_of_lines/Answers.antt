@@ -24,6 +24,10 @@ pub returns-clause-suspects_itself : goal.returns-clause-suspects_itself
 unfolding line_of is_utf8 chars encode
 returns-clause-suspects_itself c = refl
 
+pub returns-clause-cuts : goal.returns-clause-cuts
+unfolding line_of is_utf8 chars encode
+returns-clause-cuts c = refl
+
 pub returns-clause-listed_twice : goal.returns-clause-listed_twice
 unfolding line_of is_utf8 chars encode
 returns-clause-listed_twice c = refl

@@ -3,9 +3,10 @@ use Rattle.std.specs.Prelude.{slice_get}
 use Rattle.std.proofs.lemmas.Option.{slice_get_within}
 use Rattle.paxos_node.specs.declared.event.Event.TheVariants.{Deliver}
 use Rattle.realm_acts.specs.Act.{same_act}
-use Rattle.cluster_world.specs.Scripts.{deliver_no, happen}
+use Rattle.cluster_world.specs.Scripts.{deliver_no}
 use Rattle.script_program.specs.declared.player.Player.{Player}
 use Rattle.script_program.specs.Player.{IsAt}
+use Rattle.script_program.specs.Playing.{happen}
 use Rattle.script_program.proofs.Steps.{grown, has_delivered}
 use Rattle.script_program.proofs.Turns.{sent_is}
 use Rattle.script_program.proofs.player.Player.deliver_at.Goals as goal
@@ -23,8 +24,8 @@ returns c = λ config members s at.
     ap Some c.in-Ok.ensures ∙ c.in-Some.ensures config s.events at.stands
     ∙ ap (λ ps. slice_get ps c.args.place) (sent_is config members c.args.self.now s at) in
     let within = slice_get_within s.world.sent c.args.place c.in-Ok.packet (sym found) in
-    let more = grown members (Deliver c.in-Ok.packet) s in
+    let more = grown config members (Deliver c.in-Ok.packet) s in
     subst (λ o. IsAt config members new (deliver_no same_act members (c.args.place + 1) o s)) found
     (has_delivered config members c.happen.new.self new
-    (happen same_act members (Deliver c.in-Ok.packet) s) c.args.place (omega (arith, within, more))
+    (happen config members (Deliver c.in-Ok.packet) s) c.args.place (omega (arith, within, more))
     (c.in_ok-happen.ensures config members s at) refl c.deliver.ensures)
