@@ -11,8 +11,11 @@ use std::alloc::{AllocError, Global};
 use std::net::TcpStream;
 use std::sync::Arc;
 
-/// How many sayings may wait for a client.
-pub const SAYINGS_WAITING: usize = 1024;
+/// How many sayings may wait for a client in the ring of its connection, from which its porter takes them. While a processor is shared, a node
+/// that catches up says thousands before the porter has its turn.
+///
+/// A ring takes up to 704 KiB, 176 octets a saying: no more of it than the connection has used at some time.
+pub const SAYINGS_WAITING: usize = 4096;
 
 /// A connection that came, as its node gets it: the end of its requests, the ring of its sayings, and the node's hold on the
 /// connection, which is dropped with the arrival.

@@ -115,7 +115,7 @@ impl Porter {
 
     // Rests until something happens, accepts clients, and goes on with each connection.
     pub fn turn<R: Clock + Eprint>(&mut self, rt: &R) {
-        let is_rung = self.rest();
+        let is_rung = self.rest(rt);
         note_all(&self.events, &mut self.connections, &mut self.is_called);
         self.tick(rt);
         self.admit_all(rt);
@@ -123,18 +123,27 @@ impl Porter {
     }
 
     // Rests until something happens or the next turn is due. Returns whether the node has rung.
-    fn rest(&mut self) -> bool {
+    fn rest<R: Clock>(&mut self, rt: &R) -> bool {
         let longest = if self.bell.begin_rest() || self.is_busy {
             Some(Duration::ZERO)
         } else if self.is_soon {
             Some(Duration::from_millis(FULL_MILLIS))
         } else if self.is_timed {
-            Some(Duration::from_millis(TICK_MILLIS))
+            Some(self.left_of_tick(rt))
         } else {
             None
         };
         let _polled = self.poll.poll(&mut self.events, longest);
         self.bell.end_rest()
+    }
+
+    // Returns how long the tick goes on that has begun; a whole one if none has, or the clock cannot be read.
+    fn left_of_tick<R: Clock>(&self, rt: &R) -> Duration {
+        let whole = Duration::from_millis(TICK_MILLIS);
+        match (self.ticked, Instant::now(rt)) {
+            (Some(ticked), Ok(now)) => whole.saturating_sub(now.saturating_duration_since(ticked)),
+            _ => whole,
+        }
     }
 
     // Counts a tick, if ticks are counted and one has passed since the last.
@@ -153,7 +162,7 @@ impl Porter {
         if now.saturating_duration_since(ticked) < Duration::from_millis(TICK_MILLIS) {
             return;
         }
-        self.ticked = Some(now);
+        self.ticked = next_tick(ticked, now);
         self.is_called = self.is_called || self.is_refused;
         self.is_refused = false;
         for connection in &mut self.connections {
@@ -278,6 +287,16 @@ impl Porter {
                 }
             }
         }
+    }
+}
+
+// Returns when the tick begins that follows one that began then and has ended: at its end; or now, if that one would have ended, too. So ticks are
+// as many as the clock says, but for those in which the thread got no processor.
+fn next_tick(ticked: Instant, now: Instant) -> Option<Instant> {
+    let tick = Duration::from_millis(TICK_MILLIS);
+    match ticked.checked_add(tick) {
+        Some(end) if now.saturating_duration_since(end) < tick => Some(end),
+        _ => Some(now),
     }
 }
 

@@ -94,8 +94,8 @@ impl Lines {
         }
     }
 
-    // Returns whether nothing is left to be written.
-    fn is_empty(&self) -> bool {
+    // Returns whether the writer has taken all that was said.
+    pub(crate) fn is_empty(&self) -> bool {
         self.waiting.is_empty() && self.missing.load(Ordering::SeqCst) == 0
     }
 

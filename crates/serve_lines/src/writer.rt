@@ -9,8 +9,10 @@ use std::thread;
 use std::thread::Threads;
 use std::time::Duration;
 
-/// How many milliseconds the end of a program waits for its lines to be written, at most.
-const LAST_MILLIS: u32 = 1000;
+/// How many milliseconds the end of a program waits at most: until its last line is taken by the thread that writes, and then until it is written.
+const TAKING_MILLIS: u32 = 5000;
+
+const WRITING_MILLIS: u32 = 1000;
 
 /// Starts the thread that writes the lines of this ring to standard error, each as soon as it can. The thread is not joined. Fails if there is no
 /// memory, or no thread.
@@ -44,9 +46,16 @@ fn write_all<R: Wait + Eprint>(rt: &R, lines: &Lines) {
 }
 
 impl Lines {
-    /// Waits until all that was said is written, for at most about a second.
+    /// Waits until all that was said is written: for about five seconds at most while the writer has not taken the last line, since it waits for a
+    /// processor or for a reader of the lines before; and then for about one second at most, since that line may wait for a reader.
     pub fn settle<C: Clock>(&self, clock: &C) {
-        for _ in 0..LAST_MILLIS {
+        for _ in 0..TAKING_MILLIS {
+            if self.is_empty() {
+                break;
+            }
+            thread::sleep(clock, Duration::from_millis(1));
+        }
+        for _ in 0..WRITING_MILLIS {
             if self.is_written() {
                 return;
             }
@@ -55,7 +64,8 @@ impl Lines {
     }
 }
 
-/// Says the last line of a program, and waits until it is written, for at most about a second. Writes it at once if no thread can be made.
+/// Says the last line of a program, and waits until it is written, as [`Lines::settle`] does: if nobody reads, for about a second. Writes it at
+/// once if no thread can be made.
 pub fn say_last<R, D>(rt: &R, alloc: Global, line: D)
 where
     R: Threads + Wait + Clock + Eprint + Clone + Drop + Send + 'static,
