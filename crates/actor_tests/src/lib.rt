@@ -34,6 +34,8 @@ mod sessions;
 #[cfg(test)]
 mod signs;
 #[cfg(test)]
+mod snapshots;
+#[cfg(test)]
 mod telling;
 #[cfg(test)]
 mod threads;

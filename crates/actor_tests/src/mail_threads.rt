@@ -9,7 +9,7 @@ use crate::check::Check;
 use crate::posting::{for_second, opened, stepped};
 use mail_table::{Mail, NodeSeat, Office, found};
 use paxos_node::Node;
-use paxos_packets::{Members, Packet};
+use paxos_packets::{Members, Packet, Rows};
 use std::alloc::Global;
 use std::process::Abort;
 use std::test::Fail;
@@ -75,7 +75,7 @@ fn first_thread(
     requires never { one.part.seen.opened ≡ Never }
     requires members { (members ≡ mail.now.members) × (3 ≤ mail.now.members) }
 {
-    let mut node = opened(alloc, mail, &mut one, members)?;
+    let mut node = opened(alloc, mail, &mut one, members, Rows::first(alloc))?;
     post_all(mail, &mut one, &mut node)
 }
 

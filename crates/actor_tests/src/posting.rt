@@ -18,19 +18,19 @@ use std::test::Fail;
 use test_checks::check;
 use test_machines::Number;
 
-// The node of this seat, opened for the first time.
+// The node of this seat, opened for the first time, with these rows.
 pub(crate) fn opened(
     alloc: Global,
     mail: &Mail<Number>,
     seat: &mut NodeSeat<Number>,
     members: Members,
+    rows: Rows<Number>,
 ) -> Result<Node<Number>, Fail>
     requires owned { Owns mail.now seat.old }
     requires never { seat.old.part.seen.opened ≡ Never }
     requires members { members ≡ mail.now.members }
     ensures { IfOk result (λ node. Knows mail.now seat.new node) }
 {
-    let rows = Rows::first(alloc);
     mail.renew(seat, &rows)?;
     Ok(Node::of(alloc, seat.node(), members, rows)?)
 }
@@ -158,7 +158,7 @@ fn run(
     requires never { one.old.part.seen.opened ≡ Never }
     requires members { members ≡ mail.now.members }
 {
-    let mut node = opened(alloc, mail, one, members)?;
+    let mut node = opened(alloc, mail, one, members, Rows::first(alloc))?;
     let done = steps(rt, mail, one, two, &mut node);
     drop(node);
     done

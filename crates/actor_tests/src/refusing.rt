@@ -99,12 +99,12 @@ pub fn begins_again(rt: &impl Abort, alloc: Global, actor: Counting<'_>) {
 
 // Restarts on other stores.
 
-// How often the node of another store was started, the round and the node of the ballot that it promised then, and the floor of its
-// snapshot; 0 for none.
-type Other = (u64, (u64, u8), u8);
+/// How often the node of another store was started, the round and the node of the ballot that it promised then, and the floor of its
+/// snapshot; 0 for none.
+pub type Other = (u64, (u64, u8), u8);
 
-// That store.
-fn keeper_with(rt: &impl Abort, alloc: Global, other: &Other) -> MemKeeper<Number> {
+/// That store.
+pub fn keeper_with(rt: &impl Abort, alloc: Global, other: &Other) -> MemKeeper<Number> {
     let (boots, (round, _), _) = *other;
     let mut keeper = MemKeeper::new(alloc);
     for _ in 0..boots {
@@ -139,7 +139,8 @@ fn promise(rt: &impl Abort, alloc: Global, keeper: &mut MemKeeper<Number>, other
     drop(change);
 }
 
-fn boots_of(rt: &impl Abort, keeper: &mut MemKeeper<Number>) -> u64 {
+/// How often its node was started.
+pub fn boots_of(rt: &impl Abort, keeper: &mut MemKeeper<Number>) -> u64 {
     let rows = keeper.load().expect(rt, "what is stored");
     rows.boot
 }

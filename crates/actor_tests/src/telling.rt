@@ -75,7 +75,8 @@ fn again(event: &Event<Number>) -> Option<Event<Number>>
             node: *node,
             other: *other,
         }),
-        Event::Deliver { .. } | Event::Crash { .. } | Event::Restart { .. } => None,
+        Event::Deliver { .. } | Event::Cut { .. } | Event::Crash { .. } | Event::Restart { .. } =>
+            None,
     }
 }
 

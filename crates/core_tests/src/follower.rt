@@ -1,4 +1,4 @@
-// A node's machine along its log in several boots: what transports are handed, sayings ahead, and a machine that refuses.
+// A node's machine along its log in several boots: what transports are handed, sayings ahead, a machine that refuses, and snapshots.
 use crate::check::Check;
 use replica_follower::{Follower, Transport};
 use replica_machine::{Entry, Machine};
@@ -6,7 +6,7 @@ use std::alloc::Global;
 use std::panic::Expect;
 use std::process::Abort;
 use test_checks::{check, check_eq};
-use test_machines::{Count, Foretells, Number, Refuses};
+use test_machines::{Count, Foretells, Number, Refuses, Scant};
 
 // A node whose boots go by pieces of one log, and the octets of the empty one.
 #[derive(Drop)]
@@ -289,5 +289,150 @@ fn is_saved_as(rt: &impl Abort, follower: &Follower<Count>, octets: &[u8]) -> bo
 fn a_machine_is_made_of_what_was_saved(rt: HostRuntime) {
     let mut walk = walk_of(&rt, rt.alloc(), 2, Count::new(rt.alloc()));
     is_made_anew(&rt, &mut walk);
+    drop(walk);
+}
+
+// A log that is cut leaves the machine and what was handed out as they were. It is saved as before, and what follows takes effect after it.
+fn is_cut(rt: &impl Abort, walk: &mut Walk<Count>) {
+    goes(rt, walk, &ONCE[..3]);
+    let octets = walk.follower.saved().expect(rt, "the octets of a log");
+    walk.follower.rest_on();
+    check_eq!(rt; (counted(walk), walk.follower.is_given_up()), ((11, 0, 1), false));
+    check!(rt; is_saved_as(rt, &walk.follower, &octets));
+    check_eq!(rt; goes_on(rt, &mut walk.follower), (3, Some(18)));
+    check_eq!(rt; counted(walk), (18, 1, 1));
+    drop(octets);
+}
+
+#[test]
+fn a_cut_leaves_the_machine_as_it_was(rt: HostRuntime) {
+    let mut walk = walk_of(&rt, rt.alloc(), 2, Count::new(rt.alloc()));
+    is_cut(&rt, &mut walk);
+    drop(walk);
+}
+
+// The octets of the log up to this entry, as another node's machine saves them.
+fn saved_by_another(rt: &impl Abort, alloc: Global, end: usize) -> Vec<u8> {
+    let mut walk = walk_of(rt, alloc, 1, Count::new(alloc));
+    check!(rt; walk.pass(1, 0, end));
+    let octets = walk.follower.saved().expect(rt, "the octets of a log");
+    drop(walk);
+    octets
+}
+
+// Whether the octets of a log are taken in this boot, with the entries of the walk's log from one place to its end, and the length of the
+// log then and whether the machine is given up.
+fn takes<M: Machine<Body = Number>>(
+    walk: &mut Walk<M>,
+    boot: u64,
+    octets: &[u8],
+    from: usize,
+) -> (bool, usize, bool) {
+    if walk.log.len() < from {
+        return (false, 0, false);
+    }
+    let taken = walk.follower.take(boot, octets, &walk.log[from..]).is_ok();
+    (
+        taken,
+        walk.follower.log().len(),
+        walk.follower.is_given_up(),
+    )
+}
+
+// A boot, up to which entry the node had applied, and up to which the snapshot goes; then how many sums transport 1 of boot 1 was handed in
+// all, and the last of them: what is said up to the snapshot's end is told by no one.
+type Taken = (u64, usize, usize, (usize, Option<u64>));
+
+const TAKEN: &[Taken] = &[
+    (1, 0, 0, (2, Some(11))),
+    (1, 0, 2, (2, Some(11))),
+    (1, 2, 3, (1, Some(11))),
+    (1, 3, 3, (2, Some(11))),
+    (1, 2, 4, (0, None)),
+    (2, 2, 2, (0, None)),
+];
+
+// What a snapshot leads to that a node takes so: whether it is taken, the length of the log then and whether the machine is given up; the
+// machine's sum, and what was handed out.
+fn taken(
+    rt: &impl Abort,
+    alloc: Global,
+    row: &Taken,
+) -> ((bool, usize, bool), u64, (usize, Option<u64>)) {
+    let mut walk = walk_of(rt, alloc, 2, Count::new(alloc));
+    check!(rt; walk.pass(1, 0, row.1));
+    let octets = saved_by_another(rt, alloc, row.2);
+    let taken = takes(&mut walk, row.0, &octets, row.2);
+    let sum = walk.follower.machine().sum();
+    let handed = handed(&walk.follower, 2, 1);
+    drop(octets);
+    drop(walk);
+    (taken, sum, handed)
+}
+
+#[test]
+fn a_snapshot_is_taken_with_what_follows_it(rt: HostRuntime) {
+    for row in TAKEN {
+        check_eq!(&rt; taken(&rt, rt.alloc(), row), ((true, 4usize.saturating_sub(row.2), false), 11, row.3));
+    }
+}
+
+// Octets that are no snapshot change nothing.
+fn takes_none(rt: &impl Abort, walk: &mut Walk<Count>) {
+    goes(rt, walk, &ONCE[..3]);
+    check_eq!(rt; takes(walk, 1, b"none".as_slice(), 0), (false, 4, false));
+    check_eq!(rt; (counted(walk), handed(&walk.follower, 2, 1)), ((11, 4, 1), (2, Some(11))));
+    check_eq!(rt; goes_on(rt, &mut walk.follower), (3, Some(18)));
+}
+
+#[test]
+fn no_damaged_snapshot_is_taken(rt: HostRuntime) {
+    let mut walk = walk_of(&rt, rt.alloc(), 2, Count::new(rt.alloc()));
+    takes_none(&rt, &mut walk);
+    drop(walk);
+}
+
+// The same of the octets of the empty log, with all entries.
+fn takes_first(walk: &mut Walk<Refuses>) -> (bool, usize, bool) {
+    let taken = walk.follower.take(1, &walk.first, &walk.log).is_ok();
+    (
+        taken,
+        walk.follower.log().len(),
+        walk.follower.is_given_up(),
+    )
+}
+
+// A machine that is given up stays so when its log is cut, and is back with a snapshot.
+fn comes_back_with_a_snapshot(rt: &impl Abort, walk: &mut Walk<Refuses>) {
+    tries(rt, walk, REFUSED);
+    walk.follower.rest_on();
+    check_eq!(rt; tried(walk, &(1, 0, 1, false, 0, true)), (false, 0, true));
+    check_eq!(rt; takes_first(walk), (true, 4, false));
+    check_eq!(rt; walk.follower.machine().taken(), 4);
+}
+
+#[test]
+fn a_machine_that_is_given_up_is_back_with_a_snapshot(rt: HostRuntime) {
+    let mut walk = walk_of(&rt, rt.alloc(), 3, Refuses::new(rt.alloc(), 2));
+    comes_back_with_a_snapshot(&rt, &mut walk);
+    drop(walk);
+}
+
+// Where memory runs out as a machine is saved, or made of octets, the one that there is goes on.
+fn runs_out(rt: &impl Abort, walk: &mut Walk<Scant>) {
+    check_eq!(rt; (walk.pass(1, 0, 2), walk.follower.saved().is_err()), (true, true));
+    check_eq!(rt; (walk.follower.log().len(), walk.follower.is_given_up()), (2, false));
+    check!(rt; walk.pass(1, 2, 3));
+    let octets = walk.follower.saved().expect(rt, "the octets of a log");
+    check_eq!(rt; takes(walk, 1, &octets, 3), (false, 3, false));
+    check_eq!(rt; (walk.follower.renew(&octets).is_err(), walk.follower.log().len()), (true, 3));
+    check_eq!(rt; (walk.pass(1, 3, 4), walk.follower.machine().taken()), (true, 4));
+    drop(octets);
+}
+
+#[test]
+fn out_of_memory_leaves_the_machine_as_it_was(rt: HostRuntime) {
+    let mut walk = walk_of(&rt, rt.alloc(), 2, Scant::new(rt.alloc()));
+    runs_out(&rt, &mut walk);
     drop(walk);
 }

@@ -1,7 +1,7 @@
 // What is planned on a learner: what it would learn, disagreement, and runs up to a gap; and that what is planned is heard.
 use crate::check::Check;
 use paxos_learner::{Hearing, Learner, News};
-use paxos_packets::{Ballot, Body, Entry, Members, Slot, Vote};
+use paxos_packets::{Ballot, Body, Entry, Floor, Members, Slot, Vote};
 use std::alloc::Global;
 use std::process::Abort;
 use test_checks::{check, check_eq};
@@ -80,7 +80,7 @@ fn disagree(
 
 fn learner(rt: &impl Abort, alloc: Global) -> Learner<Number> {
     let members = Members::new(3).expect(rt, "3 members");
-    Learner::new(alloc, members)
+    Learner::new(alloc, members, Floor::none())
 }
 
 fn slot(rt: &impl Abort, number: u64) -> Slot {
@@ -134,6 +134,31 @@ fn would_disagree(rt: &impl Abort, alloc: Global, learner: &Learner<Number>) {
 fn another_entry_would_disagree(rt: HostRuntime) {
     let learner = learner(&rt, rt.alloc());
     would_disagree(&rt, rt.alloc(), &learner);
+}
+
+// News of a slot that the floor closes are kept, and change nothing: how many there are, and whether they disagree.
+fn closed(
+    rt: &impl Abort,
+    alloc: Global,
+    learner: &Learner<Number>,
+    slot: Slot,
+) -> (usize, bool, bool) {
+    let mut hearing = Hearing::of(alloc, learner);
+    let (before, after, stays) = tells(rt, &mut hearing, slot);
+    (hearing.into_news().len(), before || after, stays)
+}
+
+fn is_closed(rt: &impl Abort, alloc: Global, learner: &Learner<Number>) {
+    let slot = slot(rt, 2);
+    check!(rt; closed(rt, alloc, learner, slot) == (2, false, false));
+}
+
+#[test]
+fn a_closed_slot_stays_as_it_is(rt: HostRuntime) {
+    let members = Members::new(3).expect(&rt, "3 members");
+    let floor = Floor::new(2).expect(&rt, "a floor");
+    let learner = Learner::new(rt.alloc(), members, floor);
+    is_closed(&rt, rt.alloc(), &learner);
 }
 
 // Noops in slots 1, 2 and 4 are reported to it.

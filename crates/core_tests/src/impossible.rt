@@ -19,12 +19,14 @@ const UP: &[Turn] = &[
     Turn::Tick(0),
     Turn::Start(0),
     Turn::Suspect(0, 1),
+    Turn::Cut(0),
     Turn::Crash(0),
     Turn::Restart(0),
     Turn::Take(4, 1, 7),
     Turn::Tick(4),
     Turn::Start(4),
     Turn::Suspect(4, 1),
+    Turn::Cut(4),
     Turn::Crash(4),
     Turn::Restart(4),
     Turn::Restart(255),
@@ -37,8 +39,12 @@ const DOWN: &[Turn] = &[
     Turn::Start(3),
     Turn::Suspect(3, 1),
     Turn::Deliver(36),
+    Turn::Cut(3),
     Turn::Crash(3),
 ];
+
+// Of node 3 once it is up again, with no entry.
+const EMPTY: &[Turn] = &[Turn::Restart(3), Turn::Cut(3)];
 
 fn stays(rt: &impl Abort, alloc: Global, world: &mut World<Count>, turns: &[Turn]) {
     let before = shown(world);
@@ -54,6 +60,7 @@ fn stays_down(rt: &impl Abort, alloc: Global, world: &mut World<Count>) {
     stays(rt, alloc, world, DOWN);
     goes(rt, alloc, world, &[Turn::Restart(3)]);
     check!(rt; shown(world) == (38, [4, 4, 0], [true, true, true], 2));
+    stays(rt, alloc, world, EMPTY);
 }
 
 fn stays_up(rt: &impl Abort, alloc: Global, world: &mut World<Count>) {

@@ -10,6 +10,8 @@ mod check;
 #[cfg(test)]
 mod codec;
 #[cfg(test)]
+mod cuts;
+#[cfg(test)]
 mod follower;
 #[cfg(test)]
 mod given_up;

@@ -55,6 +55,40 @@ fn comes_back(rt: &impl Abort, alloc: Global, world: &mut World<Foretells>) {
     check!(rt; hands_out(world, BOTH));
 }
 
+// All nodes cut, and then node 2 comes back: its next boot begins at the floor.
+const CUT_BACK: &[Turn] = &[
+    Turn::Cut(1),
+    Turn::Cut(2),
+    Turn::Cut(3),
+    Turn::Crash(2),
+    Turn::Restart(2),
+    Turn::Tick(2),
+];
+
+const FIRST_ALONE: &[Told] = &[(2, 1, 1, &[5, 11])];
+
+// Of what was said below a floor to a boot that begins above it, nothing is handed out.
+fn comes_back_above_a_cut(rt: &impl Abort, alloc: Global, world: &mut World<Foretells>) {
+    session(rt, alloc, world);
+    for row in CUT_BACK {
+        check!(rt; turn(rt, world, alloc, row));
+    }
+    check!(rt; flush(rt, world, alloc, 38));
+    for node in 1..=3 {
+        check_eq!(rt; world.floor(node), 4, node);
+        check!(rt; has_log(world, node, &[Held::Boot(2, 2)]), node);
+    }
+    told(rt, world, &[5, 11], &[]);
+    check!(rt; hands_out(world, FIRST_ALONE));
+}
+
+#[test]
+fn what_was_said_below_a_floor_is_not_told_above_it(rt: HostRuntime) {
+    let mut world = foretelling(&rt, rt.alloc());
+    comes_back_above_a_cut(&rt, rt.alloc(), &mut world);
+    drop(world);
+}
+
 #[test]
 fn what_was_said_early_is_told_in_the_next_boot(rt: HostRuntime) {
     let mut world = foretelling(&rt, rt.alloc());

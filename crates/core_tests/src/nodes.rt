@@ -22,10 +22,11 @@ fn node_of(rt: &impl Abort, alloc: Global, octets: &[u8]) -> Node<Number> {
     Node::of(alloc, 1, members, rows).expect(rt, "room for a node")
 }
 
-fn is_begun(rt: &impl Abort, node: &Node<Number>) {
+// It has begun, and its log is this long.
+fn is_begun(rt: &impl Abort, node: &Node<Number>, length: u64) {
     check!(rt; node.is_up());
     check!(rt; node.has_pending());
-    check_eq!(rt; node.applied(), 0);
+    check_eq!(rt; node.applied(), length);
     check_eq!(rt; node.boot(), 3);
     check!(rt; node.promised() == Some(PROMISED));
     check!(rt; node.votes().is_empty());
@@ -45,7 +46,7 @@ fn floor_in(node: Node<Number>) -> u64 {
 #[test]
 fn a_node_has_the_floor_of_its_rows(rt: HostRuntime) {
     let node = node_of(&rt, rt.alloc(), &[0, 0, 0, 0, 0, 0, 1, 2]);
-    is_begun(&rt, &node);
+    is_begun(&rt, &node, 258);
     check_eq!(&rt; node.floor().get(), 258);
     check_eq!(&rt; floor_in(node), 258);
 }
@@ -53,7 +54,7 @@ fn a_node_has_the_floor_of_its_rows(rt: HostRuntime) {
 #[test]
 fn a_node_begins_with_its_rows(rt: HostRuntime) {
     let node = node_of(&rt, rt.alloc(), &[]);
-    is_begun(&rt, &node);
+    is_begun(&rt, &node, 0);
     check_eq!(&rt; node.floor().get(), 0);
     check_eq!(&rt; node.into_rows().boot, 3);
 }

@@ -684,37 +684,50 @@ const SHOWS_AND_TELLS: &[Mail] = &[(1, Says::Snapshot(5)), (1, Says::Learned(6, 
 const TELLS_ABOVE: &[Mail] = &[(1, Says::Learned(6, Held::Boot(1)))];
 
 const CLOSED: &[Row] = &[
-    (Step::Hears(2, Says::Prepare((2, 2), 1), PROMISES), 0),
+    (Step::Hears(2, Says::Prepare((2, 2), 1), PROMISES), 5),
     // in a slot up to the floor nothing is committed, not even a promise
     (
         Step::Hears(2, Says::Accept((2, 2), 5, Held::Noop), SHOWS),
-        0,
+        5,
     ),
     (
         Step::Hears(2, Says::Accept((3, 2), 1, Held::Noop), SHOWS),
-        0,
+        5,
     ),
-    (Step::Promised(Some((2, 2))), 0),
+    (Step::Promised(Some((2, 2))), 5),
     (
         Step::Hears(1, Says::Accept((1, 1), 5, Held::Noop), REFUSES),
-        0,
+        5,
     ),
-    (Step::Hears(1, Says::Ask(1), SHOWS_FIRST), 0),
+    (Step::Hears(1, Says::Ask(1), SHOWS_FIRST), 5),
     (
         Step::Hears(2, Says::Accept((2, 2), 6, Held::Boot(1)), VOTES_ABOVE),
-        0,
+        5,
     ),
-    (Step::Votes(1), 0),
+    (Step::Votes(1), 5),
+    // what was learned right after the floor is applied
     (
-        Step::Hears(2, Says::Accepted((2, 2), 6, Held::Boot(1)), NOTHING),
-        0,
+        Step::Event(
+            Happens::Hears(2, Says::Accepted((2, 2), 6, Held::Boot(1))),
+            Ok(1),
+            NOTHING,
+        ),
+        6,
     ),
-    (Step::Hears(1, Says::Ask(5), SHOWS_AND_TELLS), 0),
-    (Step::Hears(1, Says::Ask(6), TELLS_ABOVE), 0),
-    (Step::Hears(1, Says::Ask(7), NOTHING), 0),
-    // a Snapshot brings about nothing
-    (Step::Hears(2, Says::Snapshot(9), NOTHING), 0),
-    (Step::Votes(1), 0),
+    (Step::Hears(1, Says::Ask(5), SHOWS_AND_TELLS), 6),
+    (Step::Hears(1, Says::Ask(6), TELLS_ABOVE), 6),
+    (Step::Hears(1, Says::Ask(7), NOTHING), 6),
+    // a Snapshot that gives no more than the log brings about nothing; one that gives more needs a head
+    (Step::Hears(2, Says::Snapshot(6), NOTHING), 6),
+    (
+        Step::Event(
+            Happens::Hears(2, Says::Snapshot(7)),
+            Err(NodeFault::Disagree),
+            NOTHING,
+        ),
+        6,
+    ),
+    (Step::Votes(1), 6),
 ];
 
 #[test]
@@ -723,7 +736,7 @@ fn slots_up_to_its_floor_are_closed(rt: HostRuntime) {
 }
 
 // What it sends as it begins a ballot, and once that has a majority: above its own floor, and above one that was reported.
-const PREPARES_ABOVE: &[Mail] = &[(1, Says::Prepare((2, 3), 1)), (2, Says::Prepare((2, 3), 1))];
+const PREPARES_ABOVE: &[Mail] = &[(1, Says::Prepare((2, 3), 6)), (2, Says::Prepare((2, 3), 6))];
 
 const PROPOSES_ABOVE: &[Mail] = &[
     (1, Says::Accept((2, 3), 6, Held::Boot(2))),
@@ -752,25 +765,25 @@ const PROPOSES_LATER: &[Mail] = &[
 ];
 
 const ABOVE_ITS_OWN: &[Row] = &[
-    (Step::Event(Happens::Start(3), Ok(0), PREPARES_ABOVE), 0),
+    (Step::Event(Happens::Start(3), Ok(0), PREPARES_ABOVE), 5),
     (
         Step::Hears(1, Says::PromiseAbove((2, 3), 4, None), PROPOSES_ABOVE),
-        0,
+        5,
     ),
-    (Step::Votes(2), 0),
+    (Step::Votes(2), 5),
 ];
 
 const ABOVE_A_REPORTED_ONE: &[Row] = &[
-    (Step::Event(Happens::Start(3), Ok(0), PREPARES_ABOVE), 0),
+    (Step::Event(Happens::Start(3), Ok(0), PREPARES_ABOVE), 5),
     (
         Step::Hears(
             1,
             Says::PromiseAbove((2, 3), 7, Some((9, Held::Act))),
             PROPOSES_LATER,
         ),
-        0,
+        5,
     ),
-    (Step::Votes(4), 0),
+    (Step::Votes(4), 5),
 ];
 
 #[test]

@@ -41,12 +41,12 @@ fn has_act(world: &World<Count>, node: u8, number: u32) -> bool {
     *own == node && *transport == number && body.get() == 5 && world.said(transport_then).len() == 1
 }
 
-// How often the events restart the node, if they take no node down, suspect none, and restart no other.
+// How often the events restart the node, if they take no node down, suspect none, cut none, and restart no other.
 fn restarts(events: &[Event<Number>], node: u8) -> Option<usize> {
     let mut count = 0usize;
     for event in events {
         match event {
-            Event::Crash { .. } | Event::Suspect { .. } => return None,
+            Event::Crash { .. } | Event::Suspect { .. } | Event::Cut { .. } => return None,
             Event::Restart { node: other } => {
                 if *other != node {
                     return None;
@@ -215,7 +215,7 @@ fn line_of(world: &World<Count>, event: &Event<Number>) -> Option<Line> {
         Event::Start { node } => Some(Line::Start(*node)),
         Event::Deliver { packet } => Some(Line::Deliver(number_of(world, packet)?)),
         Event::Restart { node } => Some(Line::Restart(*node)),
-        Event::Suspect { .. } | Event::Crash { .. } => None,
+        Event::Suspect { .. } | Event::Cut { .. } | Event::Crash { .. } => None,
     }
 }
 
@@ -266,20 +266,20 @@ fn faults_have_their_numbers(rt: HostRuntime) {
 
 // Draws, each from the one before it.
 #[derive(Drop)]
-struct Draws {
+pub struct Draws {
     state: u64,
 }
 
 impl Draws {
     // The draws of a seed.
-    fn of(seed: u64) -> Draws {
+    pub fn of(seed: u64) -> Draws {
         Draws {
             state: seed.wrapping_mul(0x9E37_79B9_7F4A_7C15),
         }
     }
 
     // The next draw below this number, or 0.
-    fn below(&mut self, bound: u64) -> u64 {
+    pub fn below(&mut self, bound: u64) -> u64 {
         self.state = self
             .state
             .wrapping_mul(6_364_136_223_846_793_005)
@@ -288,12 +288,12 @@ impl Draws {
     }
 
     // The next number below this one, of an act or a transport.
-    fn number(&mut self, bound: u64) -> u32 {
+    pub fn number(&mut self, bound: u64) -> u32 {
         u32::try_from(self.below(bound)).unwrap_or(0)
     }
 
     // The next node of a cluster with this many members.
-    fn node(&mut self, members: u8) -> u8 {
+    pub fn node(&mut self, members: u8) -> u8 {
         u8::try_from(self.below(u64::from(members)))
             .unwrap_or(0)
             .saturating_add(1)
@@ -451,7 +451,7 @@ fn new_machines(rt: &impl Abort, alloc: Global, members: Members) -> Vec<Count>
 }
 
 // The first world of these members.
-fn first_world(rt: &impl Abort, alloc: Global, members: Members) -> World<Count> {
+pub fn first_world(rt: &impl Abort, alloc: Global, members: Members) -> World<Count> {
     let machines = new_machines(rt, alloc, members);
     World::new(alloc, members, machines).expect(rt, "memory for a world")
 }

@@ -13,6 +13,8 @@ pub enum Turn {
     Start(u8),
     // Time has passed at the node.
     Tick(u8),
+    // The node cuts its log.
+    Cut(u8),
     Crash(u8),
     Restart(u8),
     // The node suspects that the other one is lost.
@@ -79,6 +81,10 @@ pub fn event_of(rt: &impl Abort, alloc: Global, turn: &Turn) -> Event<Number> {
     match *turn {
         Turn::Start(node) => Event::Start { node },
         Turn::Tick(node) => Event::Tick { node },
+        Turn::Cut(node) => Event::Cut {
+            node,
+            snapshot: None,
+        },
         Turn::Crash(node) => Event::Crash { node },
         Turn::Restart(node) => Event::Restart { node },
         Turn::Suspect(node, other) => Event::Suspect { node, other },

@@ -238,7 +238,7 @@ fn waits<F: Feed<Act, Say>, G: Gate>(
     is_told(rt, two, "p");
 }
 
-// A client for whom more than 1,024 sayings wait is closed, and nobody else; in another boot all are.
+// A client for whom more than 4,096 sayings wait is closed, and nobody else; in another boot all are.
 fn closes(
     rt: &impl Abort,
     alloc: Global,

@@ -46,6 +46,7 @@ fn letters_of(event: &Event<Act>) -> (Option<char>, char) {
         Event::Tick { .. } => (None, 't'),
         Event::Start { .. } => (None, 'b'),
         Event::Suspect { .. } => (None, 's'),
+        Event::Cut { .. } => (None, '?'),
         Event::Deliver { .. } | Event::Crash { .. } | Event::Restart { .. } => (None, '?'),
     }
 }

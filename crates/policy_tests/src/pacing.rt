@@ -164,17 +164,17 @@ fn gives_1000_acts_if_it_leads_and_else_4_or_2(rt: HostRuntime) {
 
 // The room for sayings that is left after 64 more were put, whether the node then waits for the client, and whether it has done so in vain.
 const ROOM: &[(usize, bool, bool)] = &[
-    (1024, false, false),
-    (257, false, false),
-    (256, true, false),
+    (4096, false, false),
+    (1025, false, false),
+    (1024, true, false),
     (0, true, true),
     (0, false, false),
-    (512, false, false),
-    (256, false, false),
-    (959, false, false),
-    (256, false, false),
-    (960, false, false),
-    (256, true, false),
+    (2048, false, false),
+    (1024, false, false),
+    (4031, false, false),
+    (1024, false, false),
+    (4032, false, false),
+    (1024, true, false),
 ];
 
 #[test]

@@ -19,6 +19,8 @@ mod player;
 #[cfg(test)]
 mod script;
 #[cfg(test)]
+mod script_cuts;
+#[cfg(test)]
 mod script_flushes;
 #[cfg(test)]
 mod script_lines;

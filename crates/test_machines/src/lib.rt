@@ -6,6 +6,7 @@ mod foretells;
 mod number;
 mod octet;
 mod refuses;
+mod scant;
 mod sum;
 
 pub use count::Count;
@@ -13,3 +14,4 @@ pub use foretells::Foretells;
 pub use number::Number;
 pub use octet::Octet;
 pub use refuses::Refuses;
+pub use scant::Scant;

@@ -7,7 +7,7 @@ use Rattle.actor_tests.proofs.posting.opened.Goals as goal
 pub returns : goal.returns
 returns c =
     let r = c.in_ok-renew.ensures.renewed in
-    let rows : Rows _ = c.first-rows.result in
+    let rows : Rows _ = c.args.rows in
     let me = c.in_ok-of.ensures.me ∙ c.node.ensures in
     record {
       owned = c.in_ok-renew.ensures.still_owned;
