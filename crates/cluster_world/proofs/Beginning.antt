@@ -7,8 +7,9 @@ use Rattle.std.proofs.lemmas.Bool.{cond_both, cond-false, or_left, or_right, or_
 use Rattle.cluster_world.proofs.AcceptorTests.{has_from}
 use Rattle.cluster_world.proofs.AtOnce.{AtRest}
 use Rattle.cluster_world.proofs.Casting.{HeardOwn}
+use Rattle.cluster_world.proofs.CutLogs.{node_by_log}
 use Rattle.cluster_world.proofs.EventsAtOnce.{all_rest}
-use Rattle.cluster_world.proofs.EveryWorld.{world_ok, play_on, floor_none, whole_is}
+use Rattle.cluster_world.proofs.EveryWorld.{play_on}
 use Rattle.cluster_world.proofs.Leading.{AreBelow}
 use Rattle.cluster_world.proofs.Limits.{rounds_fit, first_most, first_slots_fit}
 use Rattle.cluster_world.proofs.Lists.{has_nil, has_cons, has_first}
@@ -40,9 +41,9 @@ use Rattle.paxos_node.specs.Events.{most_pending}
 use Rattle.paxos_node.specs.declared.event.Event.{Event}
 use Rattle.paxos_node.specs.declared.event.Event.TheVariants.{Start, Deliver}
 use Rattle.paxos_planning.specs.Node.{NodeState, log_length}
-use Rattle.cluster_world.specs.World.{World, node_at, first_world, next, play, played, under, log_of}
+use Rattle.cluster_world.specs.World.{World, node_at, first_world, next, play, played, log_of}
 use Rattle.cluster_world.specs.Rescue.{Apart, round_held, last_rescue_round, last_rescue_slot}
-use Rattle.world_rescue.specs.Course.{Seat, Crew, Act, refused_round, look, lead, led, pass, seen_then, first_role, first_votes}
+use Rattle.world_rescue.specs.Course.{Seat, Crew, Act, floor_of, refused_round, look, lead, led, pass, seen_then, first_role, first_votes}
 use Rattle.world_rescue.specs.Course.{first_pass}
 
 -- the greatest of what is seen and what refuses
@@ -103,18 +104,19 @@ seat_of_number {B} (s ∷ seats) j h =
     ⊎_elim (λ e. (s, here, eqb-true s.number j e)) (λ e. let r = seat_of_number seats j e in (r.0, there r.1, r.2))
     (or_cases (eqb s.number j) (list_any (λ (t : Seat B). eqb t.number j) seats) h)
 
--- rounds and slots of a node that leave room for a rescue
-pub record HasRoom {B : Type 0} (x : NodeState B) : Type 0 where
-  pub rounds : round_held x ≤ last_rescue_round
+-- rounds up to this one and slots of a node that leave room for a rescue
+pub record HasRoom {B : Type 0} (top : ℕ) (x : NodeState B) : Type 0 where
+  pub rounds : round_held x ≤ top
   pub slots : (v : Vote B) → Has x.rows.votes v → v.slot ≤ last_rescue_slot
-  pub floor : floor_in x.rows.snapshot ≡ 0
+  pub floor : floor_in x.rows.snapshot ≤ last_rescue_slot
 
 module _ {B : Type 0} (same : B → B → Bool) (equal : IsEquality same) (members : ℕ) (three : 3 ≤ members) (few : members ≤ 7)
     (events : List (Event B))
     (n : ℕ) (up : (node_at (played same members events).nodes n).up ≡ true) (seats : List (Seat B)) (apart : Apart n seats)
     (are : (s : Seat B) → Has seats s → node_at (played same members events).nodes s.number ≡ s.node)
-    (ups : (s : Seat B) → Has seats s → s.node.up ≡ true) (room : HasRoom (node_at (played same members events).nodes n))
-    (rooms : (s : Seat B) → Has seats s → HasRoom s.node)
+    (ups : (s : Seat B) → Has seats s → s.node.up ≡ true) (top : ℕ) (high : top ≤ suc last_rescue_round)
+    (room : HasRoom top (node_at (played same members events).nodes n)) (rooms : (s : Seat B) → Has seats s → HasRoom top s.node)
+    (level : (s : Seat B) → Has seats s → floor_of s ≤ log_length (node_at (played same members events).nodes n))
     (enough : is_majority members (λ k. eqb n k || list_any (λ (s : Seat B). eqb s.number k) seats) ≡ true) (act : Act B) where
   abbrev pub w : World B
   w = played same members events
@@ -170,31 +172,18 @@ module _ {B : Type 0} (same : B → B → Bool) (equal : IsEquality same) (membe
   rests : (s : Seat B) → Has seats s → AtRest s.node
   rests s h = subst (λ x. AtRest x) (are s h) (all_rest same members events s.number)
 
-  -- none of the crew has a snapshot
-  plain_at : (k : ℕ) → floor_in (node_at w.nodes k).rows.snapshot ≡ 0 → (node_at w.nodes k).rows.snapshot ≡ None
-  plain_at k e =
-      let ok = (world_ok same equal members two events).cuts in floor_none ok (node_at w.nodes k).rows.snapshot (ok.found.nodes k) e
-
-  pub plains : (s : Seat B) → Has seats s → s.node.rows.snapshot ≡ None
-  plains s h =
-      ap (λ (x : NodeState B). x.rows.snapshot) (sym (are s h))
-      ∙ plain_at s.number (ap (λ (x : NodeState B). floor_in x.rows.snapshot) (are s h) ∙ (rooms s h).floor)
-
-  pub own_plain : x0.rows.snapshot ≡ None
-  own_plain = plain_at n room.floor
-
   -- rounds
 
-  held_seen : (x : NodeState B) → HasRoom x → x.proposer.seen ≤ last_rescue_round
+  held_seen : (x : NodeState B) → HasRoom top x → x.proposer.seen ≤ top
   held_seen x r = go x.proposer.seen (round_of x.rows.promised) r.rounds
     where
-      go : (a c : ℕ) → max a c ≤ last_rescue_round → a ≤ last_rescue_round
+      go : (a c : ℕ) → max a c ≤ top → a ≤ top
       go a c l = omega arith
 
-  held_promise : (x : NodeState B) → HasRoom x → round_of x.rows.promised ≤ last_rescue_round
+  held_promise : (x : NodeState B) → HasRoom top x → round_of x.rows.promised ≤ top
   held_promise x r = go x.proposer.seen (round_of x.rows.promised) r.rounds
     where
-      go : (a c : ℕ) → max a c ≤ last_rescue_round → c ≤ last_rescue_round
+      go : (a c : ℕ) → max a c ≤ top → c ≤ top
       go a c l = omega arith
 
   refused_low : (p : Option Ballot) → refused_round b0 p ≤ round_of p
@@ -207,24 +196,31 @@ module _ {B : Type 0} (same : B → B → Bool) (equal : IsEquality same) (membe
       same_le : (k : ℕ) → k ≤ k
       same_le k = omega arith
 
-  pub seen_low : seen ≤ suc last_rescue_round
+  pub seen_low : seen ≤ suc top
   seen_low =
-      seen_most (λ s. refused_round b0 s.node.rows.promised) (suc last_rescue_round) seats b0.round
+      seen_most (λ s. refused_round b0 s.node.rows.promised) (suc top) seats b0.round
       (up_one x0.proposer.seen (held_seen x0 room))
       (λ s h. further (refused_round b0 s.node.rows.promised) (round_of s.node.rows.promised) (refused_low s.node.rows.promised)
       (held_promise s.node (rooms s h)))
     where
-      up_one : (a : ℕ) → a ≤ last_rescue_round → suc a ≤ suc last_rescue_round
+      up_one : (a : ℕ) → a ≤ top → suc a ≤ suc top
       up_one a l = omega arith
 
-      further : (a c : ℕ) → a ≤ c → c ≤ last_rescue_round → a ≤ suc last_rescue_round
+      further : (a c : ℕ) → a ≤ c → c ≤ top → a ≤ suc top
       further a c g l = omega arith
 
-  first_round : suc x0.proposer.seen < round_end
-  first_round = (rounds_fit x0.proposer.seen (more x0.proposer.seen (held_seen x0 room))).0
+  -- two more fit
+  pub seen_fits : seen ≤ suc (suc last_rescue_round)
+  seen_fits = more seen last_rescue_round seen_low high
     where
-      more : (a : ℕ) → a ≤ last_rescue_round → a ≤ suc last_rescue_round
-      more a l = omega arith
+      more : (a r : ℕ) → a ≤ suc top → top ≤ suc r → a ≤ suc (suc r)
+      more a r l h = omega arith
+
+  first_round : suc x0.proposer.seen < round_end
+  first_round = (rounds_fit x0.proposer.seen (more x0.proposer.seen last_rescue_round (held_seen x0 room) high)).0
+    where
+      more : (a r : ℕ) → a ≤ top → top ≤ suc r → a ≤ suc (suc r)
+      more a r l h = omega arith
 
   -- after the look
 
@@ -292,33 +288,29 @@ module _ {B : Type 0} (same : B → B → Bool) (equal : IsEquality same) (membe
   heards s h = subst (λ (x : NodeState B). HeardOwn ballot s.number x.learner) (are_u s h)
       (heard_none same members (events ++ lk) equal three ballot may_own s.number)
 
-  below_past : (from : ℕ) (x : NodeState B) → HasRoom x → AreBelow (suc last_rescue_slot) (votes_from from x.rows.votes)
+  below_past : (from : ℕ) (x : NodeState B) → HasRoom top x → AreBelow (suc last_rescue_slot) (votes_from from x.rows.votes)
   below_past from x r = record { each = λ v h. more v.slot (r.slots v (has_from from x.rows.votes v h)) }
     where
       more : (a : ℕ) → a ≤ last_rescue_slot → a < suc last_rescue_slot
       more a l = omega arith
 
   -- the log ends before the last slot in which the crew voted
-  log_fits : log_length x0 ≤ last_rescue_slot
+  pub log_fits : log_length x0 ≤ last_rescue_slot
   log_fits =
       subst (λ a. a ≤ last_rescue_slot) whole
       (log_low same members events equal three last_rescue_slot (λ k. eqb n k || list_any (λ (s : Seat B). eqb s.number k) seats)
-      (ltb-true _ _ enough) slots flats n)
+      (ltb-true _ _ enough) slots floors n)
     where
       whole : length (log_of w n) ≡ log_length x0
-      whole =
-          ap length (whole_is w.cuts x0 up ∙ (λ i. under w.cuts (own_plain i) ++ x0.applied))
-          ∙ (sym (none_under (length x0.applied)) ∙ ap (λ o. floor_in o + length x0.applied) (sym own_plain))
-        where
-          none_under : (a : ℕ) → 0 + a ≡ a
-          none_under a = omega arith
+      whole = sym (node_by_log same equal members three few events n up).long
 
-      flats : (k : ℕ) → (eqb n k || list_any (λ (s : Seat B). eqb s.number k) seats) ≡ true → (node_at w.nodes k).rows.snapshot ≡ None
-      flats k t =
-          ⊎_elim (λ e. subst (λ j. (node_at w.nodes j).rows.snapshot ≡ None) (eqb-true n k e) own_plain)
+      floors : (k : ℕ) → (eqb n k || list_any (λ (s : Seat B). eqb s.number k) seats) ≡ true
+          → floor_in (node_at w.nodes k).rows.snapshot ≤ last_rescue_slot
+      floors k t =
+          ⊎_elim (λ e. subst (λ j. floor_in (node_at w.nodes j).rows.snapshot ≤ last_rescue_slot) (eqb-true n k e) room.floor)
           (λ e. let s = seat_of_number seats k e in
-          subst (λ j. (node_at w.nodes j).rows.snapshot ≡ None) s.2
-          (ap (λ (x : NodeState B). x.rows.snapshot) (are s.0 s.1) ∙ plains s.0 s.1))
+          subst (λ j. floor_in (node_at w.nodes j).rows.snapshot ≤ last_rescue_slot) s.2
+          (subst (λ (x : NodeState B). floor_in x.rows.snapshot ≤ last_rescue_slot) (sym (are s.0 s.1)) (rooms s.0 s.1).floor))
           (or_cases (eqb n k) (list_any (λ (s : Seat B). eqb s.number k) seats) t)
 
       slots : (k : ℕ) (v : Vote B) → (eqb n k || list_any (λ (s : Seat B). eqb s.number k) seats) ≡ true → Has
@@ -376,7 +368,7 @@ module _ {B : Type 0} (same : B → B → Bool) (equal : IsEquality same) (membe
       (λ s h. (asked s h).up ∙ ups s h) (λ s h. subst (λ x. AtRest x) (are_u s h) (all_rest same members (events ++ lk) s.number))
       (ap (λ (x : NodeState B). x.up) x_is ∙ up) (all_rest same members (events ++ lk) n) seen
       (ap (λ (x : NodeState B). x.proposer.seen) x_is)
-      (subst (λ (x : NodeState B). round_of x.rows.promised ≤ seen) (sym x_is) least) (rounds_fit seen seen_low).0 []
+      (subst (λ (x : NodeState B). round_of x.rows.promised ≤ seen) (sym x_is) least) (rounds_fit seen seen_fits).0 []
       (suc last_rescue_slot) first_most)
       ∙ ap (λ (x : NodeState B). x.pending) x_is
 
@@ -405,13 +397,15 @@ module _ {B : Type 0} (same : B → B → Bool) (equal : IsEquality same) (membe
       (λ s h. (asked s h).up ∙ ups s h) (λ s h. subst (λ x. AtRest x) (are_u s h) (all_rest same members (events ++ lk) s.number))
       (ap (λ (x : NodeState B). x.up) x_is ∙ up) (all_rest same members (events ++ lk) n) seen
       (ap (λ (x : NodeState B). x.proposer.seen) x_is)
-      (subst (λ (x : NodeState B). round_of x.rows.promised ≤ seen) (sym x_is) least) (rounds_fit seen seen_low).0 []
+      (subst (λ (x : NodeState B). round_of x.rows.promised ≤ seen) (sym x_is) least) (rounds_fit seen seen_fits).0 []
       (suc last_rescue_slot) first_most
       (subst (λ (x : NodeState B). suc (log_length x) ≤ suc last_rescue_slot) (sym x_is) (up_one (log_length x0) log_fits))
       (subst (λ (l : List _). suc last_rescue_slot + length l ≤ first_most) (sym pending_is)
       (room_left (length x0.pending) (pending_is_few same members events n)))
-      first_slots_fit mays (λ s h. (asked s h).votes) (ap (λ (x : NodeState B). x.rows.votes) x_is) plains own_plain
-      (λ s h. (asked s h).snapshot ∙ plains s h) (ap (λ (x : NodeState B). x.rows.snapshot) x_is ∙ own_plain)
+      first_slots_fit mays (λ s h. (asked s h).votes)
+      (λ i. votes_from (suc (log_length (node_at u.nodes n))) (x_is i).rows.votes)
+      (λ s h. (asked s h).snapshot) (ap (λ (x : NodeState B). x.rows.snapshot) x_is)
+      (λ s h. subst (λ (x : NodeState B). floor_of s ≤ log_length x) (sym x_is) (level s h))
       (λ s h. below_past (suc (log_length (node_at u.nodes n))) s.node (rooms s h))
       (below_past (suc (log_length (node_at u.nodes n))) x0 room) (heard_none same members (events ++ lk) equal three ballot may_own n)
       (all_eights same members (events ++ lk) n) heards enough_first enough_then

@@ -1,6 +1,6 @@
 -- The ballot that the helpers promise, from its start on: the node leads then, and each helper has promised it.
 use Rattle.std.proofs.Common.{◌≡◌, ⊎_elim, ℕ, suc, ◌+◌, ◌<◌, ◌≤◌, Bool, true, false, ◌||◌, eqb, refl, sym, ap, ◌∙◌, subst, arith}
-use Rattle.std.proofs.Common.{List, [], ◌∷◌, length, Option, None}
+use Rattle.std.proofs.Common.{List, [], ◌∷◌, length}
 use Rattle.std.specs.Prelude.{max, fold}
 use Rattle.std.proofs.lemmas.List.{append-nil}
 use Rattle.std.proofs.lemmas.Bool.{or_cases, eqb-true}
@@ -17,7 +17,6 @@ use Rattle.cluster_world.specs.Has.{Has}
 use Rattle.paxos_packets.specs.Body.{IsEquality}
 use Rattle.paxos_packets.specs.Members.{IsMember, is_majority}
 use Rattle.paxos_packets.specs.Snapshot.{floor_in}
-use Rattle.paxos_packets.specs.Snapshot as taken
 use Rattle.paxos_packets.specs.Vote.{put_votes, votes_from}
 use Rattle.paxos_packets.specs.declared.ballot.Ballot.{Ballot}
 use Rattle.paxos_packets.specs.declared.vote.Vote.{Vote}
@@ -72,35 +71,40 @@ module _ {B : Type 0} (same : B → B → Bool) (equal : IsEquality same) (membe
   module _ (from : first ≤ past) (room : past + length y.pending ≤ most) (slots : most ≤ slot_end)
       (mays : (s : Seat B) → Has seats s → may_promise (now s).rows.promised ballot ≡ true)
       (votes_are : (s : Seat B) → Has seats s → (now s).rows.votes ≡ put_votes cast s.node.rows.votes)
-      (own_votes : x.rows.votes ≡ put_votes cast own.node.rows.votes)
-      (flats : (s : Seat B) → Has seats s → (now s).rows.snapshot ≡ None) (plains : (s : Seat B) → Has seats s → s.node.rows.snapshot ≡ None)
-      (flat : x.rows.snapshot ≡ None) (own_plain : own.node.rows.snapshot ≡ None)
+      (own_votes : votes_from first x.rows.votes ≡ votes_then first cast own)
+      (bases : (s : Seat B) → Has seats s → (now s).rows.snapshot ≡ s.node.rows.snapshot)
+      (unders : (s : Seat B) → Has seats s → floor_of s < first) (base : x.rows.snapshot ≡ own.node.rows.snapshot)
       (belows : (s : Seat B) → Has seats s → AreBelow past (votes_then first cast s))
       (own_below : AreBelow past (votes_then first cast own))
-      (level : x.learner.floor ≡ 0) (heard : HeardOwn ballot n x.learner) (eights : AreEights x.learner.heard)
+      (level : x.learner.floor ≡ floor_in x.rows.snapshot) (heard : HeardOwn ballot n x.learner) (eights : AreEights x.learner.heard)
       (enough : is_majority members (among (fold (λ ks s. s.number ∷ ks) (n ∷ []) seats)) ≡ true) where
-    flat_y : y.rows.snapshot ≡ None
-    flat_y = ap (λ (z : NodeState B). z.rows.snapshot) started.own ∙ flat
-
-    above : (a : ℕ) → 0 < suc a
-    above a = omega arith
+    base_y : y.rows.snapshot ≡ x.rows.snapshot
+    base_y = ap (λ (z : NodeState B). z.rows.snapshot) started.own
 
     -- its floor in the course is the one that it has
     pub floor_y : floor_in y.rows.snapshot ≡ floor_of own
-    floor_y = ap (λ k. floor_in k) (flat_y ∙ sym own_plain)
-
-    pub base_under : floor_of own < first
-    base_under = subst (λ (k : Option taken.Snapshot). floor_in k < first) (sym own_plain) (above (log_length x))
-
-    abbrev pub KnowsIt : World B → Role B → Type 0
-    KnowsIt w r = Knows same equal members many n low (suc seen) x.rows.votes y rest_y first past most from (floor_of own) floor_y base_under room slots cast now w r
+    floor_y = ap (λ k. floor_in k) (base_y ∙ base)
 
     own_floor : floor_in x.rows.snapshot ≡ floor_of own
-    own_floor = ap (λ k. floor_in k) (flat ∙ sym own_plain)
+    own_floor = ap (λ k. floor_in k) base
+
+    floor_under : floor_in x.rows.snapshot < first
+    floor_under = go (floor_in x.rows.snapshot) (length x.applied)
+      where
+        go : (a c : ℕ) → a < suc (a + c)
+        go a c = omega arith
+
+    pub base_under : floor_of own < first
+    base_under = subst (λ k. k < first) own_floor floor_under
+
+    abbrev pub KnowsIt : World B → Role B → Type 0
+    KnowsIt w r =
+        Knows same equal members many n low (suc seen) x.rows.votes y rest_y first past most from (floor_of own) floor_y base_under room slots
+        cast now w r
 
     first_role : asking n ballot first (floor_in x.rows.snapshot) (votes_from first x.rows.votes)
         ≡ asking own.number ballot first (floor_of own) (votes_then first cast own)
-    first_role = λ i. asking (sym number i) ballot first (own_floor i) (votes_from first (own_votes i))
+    first_role = λ i. asking (sym number i) ballot first (own_floor i) (own_votes i)
 
     knows : KnowsIt v (asking n ballot first (floor_in x.rows.snapshot) (votes_from first x.rows.votes))
     knows =
@@ -112,8 +116,8 @@ module _ {B : Type 0} (same : B → B → Bool) (equal : IsEquality same) (membe
             promised = ap (λ (z : NodeState B). z.rows.promised) started.own;
             cast = ap (λ (z : NodeState B). z.rows.votes) started.own;
             role = ap (λ (z : NodeState B). z.proposer.role) started.own;
-            level = ap (λ (z : NodeState B). z.learner.floor) started.own ∙ level;
-            from_one = tt;
+            level = ap (λ (z : NodeState B). z.learner.floor) started.own ∙ (level ∙ ap (λ k. floor_in k) (sym base_y));
+            above = tt;
             learned = refl;
             log = refl;
             pending = refl;
@@ -128,21 +132,24 @@ module _ {B : Type 0} (same : B → B → Bool) (equal : IsEquality same) (membe
             refl,
             refl,
             subst (λ l. AreBelow past l) (sym (append-nil (votes_from first x.rows.votes)))
-                (subst (λ l. AreBelow past (votes_from first l)) (sym own_votes) own_below),
-            λ d h. subst (λ (z : CountedPromise B). z.floor < first) (has_one h)
-                (subst (λ (k : Option taken.Snapshot). floor_in k < first) (sym flat) (above (log_length x))),
+                (subst (λ l. AreBelow past l) (sym own_votes) own_below),
+            λ d h. subst (λ (z : CountedPromise B). z.floor < first) (has_one h) floor_under,
           );
         }
 
     -- after the promises
     pub bid : AllVisited same members n KnowsIt now
-        (promise_then same equal members many n low (suc seen) x.rows.votes y rest_y first past most from (floor_of own) floor_y base_under room slots cast now)
+        (promise_then same equal members many n low (suc seen) x.rows.votes y rest_y first past most from (floor_of own) floor_y base_under room slots
+        cast now)
         (promises ballot first cast)
-        (promise_turn same equal members many n low (suc seen) x.rows.votes y rest_y first past most from (floor_of own) floor_y base_under room slots cast now)
-        (Due same equal members many n low (suc seen) x.rows.votes y rest_y first past most from (floor_of own) floor_y base_under room slots cast now) seats
+        (promise_turn same equal members many n low (suc seen) x.rows.votes y rest_y first past most from (floor_of own) floor_y base_under room slots
+        cast now)
+        (Due same equal members many n low (suc seen) x.rows.votes y rest_y first past most from (floor_of own) floor_y base_under room slots
+        cast now) seats
         (led same members (log_length y) y.pending ballot first cast own seats) v (play same members (lead ballot first cast seats) u)
     bid =
-        promise_all same equal members many n low (suc seen) x.rows.votes y rest_y first past most from (floor_of own) floor_y base_under room slots cast now seats v
+        promise_all same equal members many n low (suc seen) x.rows.votes y rest_y first past most from (floor_of own) floor_y base_under room slots
+        cast now seats v
         (asking own.number ballot first (floor_of own) (votes_then first cast own)) apart
         (λ s h. record {
           asked = started.asked s.number (others s h) (none_is n seats apart s h);
@@ -150,9 +157,8 @@ module _ {B : Type 0} (same : B → B → Bool) (equal : IsEquality same) (membe
           rests = rests s h;
           may = mays s h;
           votes_are = votes_are s h;
-          plain = flats s h;
-          was_plain = plains s h;
-          one_at_least = above (log_length x);
+          same_base = bases s h;
+          under = unders s h;
           below = belows s h;
         })
         (λ s h. started.others s.number (none_is n seats apart s h) ∙ are s h)

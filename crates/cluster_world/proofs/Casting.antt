@@ -55,18 +55,15 @@ own_is_few members many b from k v l e g ok =
     (λ j q. let u = heard_at l.heard (place_of v) j q in
     ok.only u.0 u.1 j u.3 (ap (λ p. p.ballot) u.2 ∙ e) (subst (λ p. from ≤ p.slot) (sym u.2) g))
 
--- at floor 0 no slot is closed
-pub none_closed : (floor slot : ℕ) → floor ≡ 0 → 1 ≤ slot → is_closed floor slot ≡ false
-none_closed floor slot e l = ap (λ f. is_closed f slot) e ∙ lt-leb slot 0 (above l)
-  where
-    above : 1 ≤ slot → 0 < slot
-    above h = omega arith
+-- no slot above the floor is closed
+pub none_closed : (floor slot : ℕ) → floor < slot → is_closed floor slot ≡ false
+none_closed floor slot l = lt-leb slot floor l
 
 -- so it learns nothing by one more of its own
-pub counts_own : {B : Type 0} (members : ℕ) → 2 ≤ members → (b : Ballot) (from k : ℕ) (v : Vote B) (l : LearnerState B) → l.floor ≡ 0
-    → 1 ≤ v.slot → v.ballot ≡ b → from ≤ v.slot → HeardFrom b from k l → count_vote members k v l ≡ hears k v l
-counts_own members many b from k v l level least e g ok =
-    cond-false (is_closed l.floor v.slot) l (learn_chosen members v (hears k v l)) (none_closed l.floor v.slot level least)
+pub counts_own : {B : Type 0} (members : ℕ) → 2 ≤ members → (b : Ballot) (from k : ℕ) (v : Vote B) (l : LearnerState B) → l.floor < v.slot
+    → v.ballot ≡ b → from ≤ v.slot → HeardFrom b from k l → count_vote members k v l ≡ hears k v l
+counts_own members many b from k v l open' e g ok =
+    cond-false (is_closed l.floor v.slot) l (learn_chosen members v (hears k v l)) (none_closed l.floor v.slot open')
     ∙ cond-false (has_most members v (hears k v l)) (learn v.slot v.entry (hears k v l)) (hears k v l)
     (own_is_few members many b from k v (hears k v l) e g (hears_own b from k v l ok))
 

@@ -1,12 +1,12 @@
 -- How a pass ends: the node's log goes on with all that it proposed, or the loss of its boot is among that.
 use Rattle.std.proofs.Common.{◌≡◌, ◌⊎◌, inl, inr, ⊎_elim, ℕ, suc, ◌+◌, ◌≤◌, Bool, true, sym, ap, ◌∙◌, subst, arith}
-use Rattle.std.proofs.Common.{List, [], ◌∷◌, ◌++◌, length, length-append, Option, Some, None}
+use Rattle.std.proofs.Common.{List, [], ◌∷◌, ◌++◌, length, length-append, Some}
 use Rattle.std.specs.Prelude.{slice_get}
 use Rattle.std.proofs.lemmas.Bool.{or_left}
 use Rattle.cluster_world.proofs.AcceptorTests.{put_has, put_cases, put_keeps}
 use Rattle.cluster_world.proofs.Agreeing.{log_is_chosen, chosen_out}
 use Rattle.cluster_world.proofs.Ends.{has_end_both}
-use Rattle.cluster_world.proofs.EveryWorld.{play_on, whole_is}
+use Rattle.cluster_world.proofs.EveryWorld.{play_on, whole_is, under_long}
 use Rattle.cluster_world.proofs.Fates.{Rides, Fell}
 use Rattle.cluster_world.proofs.Filling.{first_of, filled}
 use Rattle.cluster_world.proofs.Lists.{has_nil, has_cons}
@@ -15,7 +15,6 @@ use Rattle.cluster_world.proofs.Slots.{AreAfter}
 use Rattle.cluster_world.specs.Has.{Has, here, there}
 use Rattle.paxos_packets.specs.Body.{IsEquality}
 use Rattle.paxos_packets.specs.Members.{IsMember, IsMajority}
-use Rattle.paxos_packets.specs.Snapshot as taken
 use Rattle.paxos_packets.specs.Snapshot.{floor_in}
 use Rattle.paxos_packets.specs.Vote.{put_vote, put_votes}
 use Rattle.paxos_packets.specs.declared.ballot.Ballot.{Ballot}
@@ -110,20 +109,26 @@ module _ {B : Type 0} (same : B → B → Bool) (equal : IsEquality same) (membe
     Went_down : z ≡ down x.rows → has_end n x.rows.boot (standing_of x n) (entries_of vs) ≡ true → Ending vs z
 
   module _ (seats : List (Seat B)) (vs table votes : List (Vote B)) (start : ℕ)
-      (passed : Passed same equal members two n member round x seats (λ k. (node_at p.nodes k).rows.votes) vs [] p q)
+      (passed : Passed same equal members two n member round x seats (λ k. (node_at p.nodes k).rows.snapshot)
+      (λ k. (node_at p.nodes k).rows.votes) vs [] p q)
       (after : AreAfter (log_length x) vs) (ordered : AreAfter start table) (among_table : (v : Vote B) → Has vs v → Has table v)
       (own_votes : x.rows.votes ≡ put_votes table votes) (own_promise : x.rows.promised ≡ Some ballot)
       (mine : (v : Vote B) → Has vs v → v.ballot ≡ ballot) (crew : ℕ → Bool) (most : IsMajority members crew)
       (in_crew : (k : ℕ) → crew k ≡ true → (k ≡ n) ⊎ ((s : Seat B) × Has seats s × (s.number ≡ k)))
-      (short : (k : ℕ) (v : Vote B) → crew k ≡ true → Has (node_at p.nodes k).rows.votes v → v.slot ≤ log_length x + length vs) (flat : x.rows.snapshot ≡ None) where
+      (short : (k : ℕ) (v : Vote B) → crew k ≡ true → Has (node_at p.nodes k).rows.votes v → v.slot ≤ log_length x + length vs)
+      (lows : (s : Seat B) → Has seats s → floor_in (node_at p.nodes s.number).rows.snapshot ≤ log_length x) where
     abbrev z : NodeState B
     z = node_at q.nodes n
 
-    bare : log_length x ≡ length x.applied
-    bare = ap (λ (o : Option taken.Snapshot). floor_in o + length x.applied) flat ∙ none_under (length x.applied)
+    -- entries after the log that it had
+    get_whole : (under es : List (Entry B)) → length under ≡ floor_in x.rows.snapshot → (i : ℕ)
+        → slice_get (under ++ (x.applied ++ es)) (log_length x + i) ≡ slice_get es i
+    get_whole under es long i =
+        ap (λ a. slice_get (under ++ (x.applied ++ es)) a) (place (length under) (floor_in x.rows.snapshot) (length x.applied) long)
+        ∙ (get_right under (x.applied ++ es) (length x.applied + i) ∙ get_right x.applied es i)
       where
-        none_under : (a : ℕ) → 0 + a ≡ a
-        none_under a = omega arith
+        place : (u f a : ℕ) → u ≡ f → (f + a) + i ≡ u + (a + i)
+        place u f a e = omega arith
 
     voted : (v : Vote B) → Has vs v → Has x.rows.votes v
     voted v h = subst (λ l. Has l v) (sym own_votes) (put_all_has start table votes v ordered (among_table v h))
@@ -136,10 +141,16 @@ module _ {B : Type 0} (same : B → B → Bool) (equal : IsEquality same) (membe
           (ap (λ r. r.promised) rows ∙ own_promise))
           (λ s. subst (λ j. (node_at q.nodes j).rows.promised ≡ Some ballot) s.2 (passed.helpers s.0 s.1).promised) (in_crew k c)
 
-      flats : (k : ℕ) → crew k ≡ true → (node_at q.nodes k).rows.snapshot ≡ None
-      flats k c =
-          ⊎_elim (λ (e : k ≡ n). subst (λ j. (node_at q.nodes j).rows.snapshot ≡ None) (sym e) (ap (λ r. r.snapshot) rows ∙ flat))
-          (λ s. subst (λ j. (node_at q.nodes j).rows.snapshot ≡ None) s.2 (passed.helpers s.0 s.1).plain) (in_crew k c)
+      floors : (k : ℕ) → crew k ≡ true → floor_in (node_at q.nodes k).rows.snapshot ≤ log_length x
+      floors k c =
+          ⊎_elim
+          (λ (e : k ≡ n). subst (λ j. floor_in (node_at q.nodes j).rows.snapshot ≤ log_length x) (sym e)
+          (subst (λ r. floor_in r.snapshot ≤ log_length x) (sym rows) (within (floor_in x.rows.snapshot) (length x.applied))))
+          (λ s. subst (λ j. floor_in (node_at q.nodes j).rows.snapshot ≤ log_length x) s.2
+          (subst (λ o. floor_in o ≤ log_length x) (sym (passed.helpers s.0 s.1).given_is) (lows s.0 s.1))) (in_crew k c)
+        where
+          within : (a c : ℕ) → a ≤ a + c
+          within a c = omega arith
 
       short_then : (k : ℕ) (v : Vote B) → crew k ≡ true → Has (node_at q.nodes k).rows.votes v → v.slot ≤ log_length x + length vs
       short_then k v c h =
@@ -172,19 +183,24 @@ module _ {B : Type 0} (same : B → B → Bool) (equal : IsEquality same) (membe
             (λ v h. at_q (λ w. Has (node_at w.nodes n).rows.votes v) (subst (λ s. Has s.votes v) (sym r.ride.rows) (voted v h))) mine
             (λ k c. at_q (λ w. (node_at w.nodes k).rows.promised ≡ Some ballot) (promised r.ride.rows k c))
             (λ k v c h. short_then r.ride.rows k v c (subst (λ w. Has (node_at w.nodes k).rows.votes v) q_is h))
-            (λ k c. at_q (λ w. (node_at w.nodes k).rows.snapshot ≡ None) (flats r.ride.rows k c))
+            (λ k c. at_q (λ w. floor_in (node_at w.nodes k).rows.snapshot ≤ log_length x) (floors r.ride.rows k c))
             (ap (λ w. log_length (node_at w.nodes n)) q_is ∙ longer)
             (λ v h. at_q (λ w. is_learned v.slot (node_at w.nodes n).learner.learned ≡ true) (r.done v h)))
             r.ride)
           where
+            below : length (under q.cuts z.rows.snapshot) ≡ floor_in x.rows.snapshot
+            below =
+                let ok = passed.knows.ok.cuts in
+                under_long ok z.rows.snapshot (ok.found.nodes n) ∙ ap (λ s. floor_in s.snapshot) r.ride.rows
+
             chosen : (i : ℕ) (e : Entry B) → slice_get r.es i ≡ Some e
                 → Chosen members (played same members (early ++ later)).sent (suc (log_length x + i)) e
             chosen i e h =
                 log_is_chosen same equal members many (early ++ later) n (log_length x + i) e
                 (ap (λ w. slice_get (log_of w n) (log_length x + i)) q_is
                 ∙ (ap (λ l. slice_get l (log_length x + i))
-                (whole_is q.cuts z r.ride.up ∙ ((λ j. under q.cuts (r.ride.plain j) ++ z.applied) ∙ r.ride.log))
-                ∙ (ap (λ a. slice_get (x.applied ++ r.es) (a + i)) bare ∙ (get_right x.applied r.es i ∙ h))))
+                (whole_is q.cuts z r.ride.up ∙ ap (λ l. under q.cuts z.rows.snapshot ++ l) r.ride.log)
+                ∙ (get_whole (under q.cuts z.rows.snapshot) r.es below i ∙ h)))
 
             longer : log_length z ≡ log_length x + length r.es
             longer =
@@ -203,7 +219,7 @@ module _ {B : Type 0} (same : B → B → Bool) (equal : IsEquality same) (membe
             (λ v h. at_q (λ w. Has (node_at w.nodes n).rows.votes v) (subst (λ s. Has s.votes v) (sym rows) (voted v h))) mine
             (λ k c. at_q (λ w. (node_at w.nodes k).rows.promised ≡ Some ballot) (promised rows k c))
             (λ k v c h. short_then rows k v c (subst (λ w. Has (node_at w.nodes k).rows.votes v) q_is h))
-            (λ k c. at_q (λ w. (node_at w.nodes k).rows.snapshot ≡ None) (flats rows k c)) in
+            (λ k c. at_q (λ w. floor_in (node_at w.nodes k).rows.snapshot ≤ log_length x) (floors rows k c)) in
             Went_down f.1.down_is
             (ap (λ l. has_end n x.rows.boot (standing_of x n) l) (sym first.1)
             ∙ (has_end_both n x.rows.boot (standing_of x n) f.0 first.0
@@ -215,5 +231,4 @@ module _ {B : Type 0} (same : B → B → Bool) (equal : IsEquality same) (membe
             chosen i e h =
                 at_q (λ w. Chosen members w.sent (suc (log_length x + i)) e)
                 (chosen_out members q.sent (suc (log_length x + i)) e
-                (f.1.logged.at (log_length x + i) e
-                (ap (λ a. slice_get (x.applied ++ f.0) (a + i)) bare ∙ (get_right x.applied f.0 i ∙ h))))
+                (f.1.logged.at (log_length x + i) e (get_whole f.1.under f.0 f.1.long i ∙ h)))

@@ -1,6 +1,6 @@
 -- What becomes of a node as votes for its proposals come back: it applies what it learns, or goes down with a loss of its own boot.
-use Rattle.std.proofs.Common.{◌≡◌, ◌⊎◌, inl, inr, ⊎_elim, ℕ, suc, ◌≤◌, Bool, true, false, ◌||◌, eqb, refl, sym, ap, ◌∙◌, subst, List, []}
-use Rattle.std.proofs.Common.{◌∷◌, ◌++◌, take, None}
+use Rattle.std.proofs.Common.{◌≡◌, ◌⊎◌, inl, inr, ⊎_elim, ℕ, suc, ◌<◌, ◌≤◌, Bool, true, false, ◌||◌, eqb, refl, sym, ap, ◌∙◌, subst, List, []}
+use Rattle.std.proofs.Common.{◌∷◌, ◌++◌, length, take}
 use Rattle.std.proofs.Common.{append_assoc}
 use Rattle.std.specs.Prelude.{nat_lt}
 use Rattle.std.proofs.lemmas.Bool.{cond_both, cond-true, cond-false, cases_Bool, or_left, or_right, or_cases, eq-eqb}
@@ -8,13 +8,14 @@ use Rattle.cluster_world.proofs.Casting.{AreEights, eights_more, hears_still, no
 use Rattle.cluster_world.proofs.Learning.{count_floor}
 use Rattle.cluster_world.proofs.Ends.{has_end_both, end_within, pending_both}
 use Rattle.paxos_node.proofs.Ending.{noted, ended, applied_at_once}
-use Rattle.cluster_world.proofs.EveryWorld.{WorldOk, event_goes, whole_is}
+use Rattle.cluster_world.proofs.EveryWorld.{WorldOk, event_goes, whole_is, under_long}
 use Rattle.cluster_world.proofs.Looking.{up_stepped}
 use Rattle.cluster_world.proofs.Playing.{stepped}
 use Rattle.cluster_world.proofs.Settling.{Logged, settle_change}
 use Rattle.paxos_packets.specs.Body.{IsEquality}
 use Rattle.paxos_packets.specs.Members.{is_in, is_majority}
 use Rattle.paxos_packets.specs.Packet.{packet}
+use Rattle.paxos_packets.specs.Snapshot.{floor_in}
 use Rattle.paxos_packets.specs.declared.entry.Entry.{Entry}
 use Rattle.paxos_packets.specs.declared.packet.Kind.TheVariants.{Accepted}
 use Rattle.paxos_packets.specs.declared.packet.Packet.{Packet}
@@ -104,8 +105,7 @@ module _ {B : Type 0} (same : B → B → Bool) (equal : IsEquality same) (membe
   pub record Rides (x : NodeState B) (es : List (Entry B)) : Type 0 where
     pub up : x.up ≡ true
     pub rows : x.rows ≡ y.rows
-    pub plain : x.rows.snapshot ≡ None
-    pub level : x.learner.floor ≡ 0
+    pub level : x.learner.floor ≡ floor_in y.rows.snapshot
     pub role : x.proposer.role ≡ y.proposer.role
     pub taken : x.taken ≡ y.taken
     pub log : x.applied ≡ y.applied ++ es
@@ -115,16 +115,18 @@ module _ {B : Type 0} (same : B → B → Bool) (equal : IsEquality same) (membe
     pub heard : (p : SlotBallot) (j : ℕ) → is_in (nodes_heard p y.learner.heard) j ≡ true → is_in (nodes_heard p x.learner.heard) j ≡ true
     pub learned : (slot : ℕ) → is_learned slot y.learner.learned ≡ true → is_learned slot x.learner.learned ≡ true
 
-  -- the node went down: it applied these entries, which are chosen, and the last of them ended its boot
+  -- the node went down: it applied these entries, which are chosen, as the log is that it had, and the last of them ended its boot
   pub record Fell (x : NodeState B) (all : List (Packet B)) (es : List (Entry B)) : Type 0 where
     pub down_is : x ≡ down y.rows
     pub ends : has_end n y.rows.boot (standing_of y n) es ≡ true
-    pub logged : Logged members all (y.applied ++ es)
+    pub under : List (Entry B)
+    pub long : length under ≡ floor_in y.rows.snapshot
+    pub logged : Logged members all (under ++ (y.applied ++ es))
 
   -- a vote of node k comes back
   module _ (w : World B) (ok : WorldOk members w) (k : ℕ) (v : Vote B) (sent : was_sent same (Deliver (packet k (Accepted v) n)) w.sent
       ≡ true)
-      (least : 1 ≤ v.slot) (es : List (Entry B)) (ride : Rides (node_at w.nodes n) es) where
+      (least : floor_in y.rows.snapshot < v.slot) (es : List (Entry B)) (ride : Rides (node_at w.nodes n) es) where
     abbrev x : NodeState B
     x = node_at w.nodes n
 
@@ -156,7 +158,7 @@ module _ {B : Type 0} (same : B → B → Bool) (equal : IsEquality same) (membe
     x'_is = up_stepped same members back x ride.up ∙ ap (λ (z : Plan B). z.node) o_is
 
     opened : is_closed x.learner.floor v.slot ≡ false
-    opened = none_closed x.learner.floor v.slot ride.level least
+    opened = none_closed x.learner.floor v.slot (subst (λ f. f < v.slot) (sym ride.level) least)
 
     -- where it stood, it stands after these
     stood : standing_of x ≡ standings_from (standing_of y) es
@@ -182,7 +184,6 @@ module _ {B : Type 0} (same : B → B → Bool) (equal : IsEquality same) (membe
               (record {
                 up = ride.up;
                 rows = ride.rows;
-                plain = ride.plain;
                 level = count_floor members k v x.learner ∙ ride.level;
                 role = ride.role;
                 taken = ride.taken;
@@ -204,20 +205,25 @@ module _ {B : Type 0} (same : B → B → Bool) (equal : IsEquality same) (membe
         record {
           down_is = x'_is ∙ (ap (λ g. (ended g (noted fs t)).node) e ∙ ap (λ r. down r) ride.rows);
           ends = ends_is ∙ e;
+          under = below;
+          long =
+              under_long ok.cuts x.rows.snapshot (ok.cuts.found.nodes n)
+              ∙ ap (λ r. floor_in r.snapshot) ride.rows;
           logged =
               subst (λ l. Logged members (w.sent ++ o.packets) l)
               (ap (λ l. before ++ l) (ap (λ (z : Plan B). z.applied) o_is ∙ applied_is (has_end n boot s run))
-              ∙ (ap (λ l. l ++ fs) before_is ∙ log_is))
+              ∙ (ap (λ l. l ++ fs) before_is ∙ (append_assoc below x.applied fs ∙ ap (λ l. below ++ l) log_is)))
               (event_goes same equal members many w (Deliver back) ok sent ride.up).logged;
         }
       where
         before : List (Entry B)
         before = log_before w (Deliver back) x o
 
-        before_is : before ≡ x.applied
-        before_is =
-            ap (λ z. log_over w x true z) (ap (λ (c : Change B). c.snapshot) (settle_change n t))
-            ∙ (whole_is w.cuts x ride.up ∙ ap (λ z. under w.cuts z ++ x.applied) ride.plain)
+        below : List (Entry B)
+        below = under w.cuts x.rows.snapshot
+
+        before_is : before ≡ below ++ x.applied
+        before_is = ap (λ z. log_over w x true z) (ap (λ (c : Change B). c.snapshot) (settle_change n t)) ∙ whole_is w.cuts x ride.up
 
         applied_is : (g : Bool) → (ended g (noted fs t)).applied ≡ fs
         applied_is true = refl

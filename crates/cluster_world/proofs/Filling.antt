@@ -1,7 +1,7 @@
 -- After a pass the log is all that was proposed: no shorter, since all was learned; no longer and no other, since a majority holds what is chosen.
 use Rattle.std.proofs.Common.{◌≡◌, ⊎_elim, ℕ, zero, suc, ◌+◌, ◌<◌, ◌≤◌, Bool, true, false, refl, sym, ap, ◌∙◌, subst, arith, List, [], ◌∷◌}
 use Rattle.std.proofs.Common.{◌++◌, map}
-use Rattle.std.proofs.Common.{length, Option, Some, None}
+use Rattle.std.proofs.Common.{length, Some}
 use Rattle.std.specs.Prelude.{slice_get}
 use Rattle.std.proofs.lemmas.Bool.{cases_lt}
 use Rattle.cluster_world.proofs.EveryWorld.{world_ok}
@@ -13,7 +13,6 @@ use Rattle.cluster_world.specs.Has.{Has}
 use Rattle.paxos_packets.specs.Ballot.{below}
 use Rattle.paxos_packets.specs.Body.{IsEquality}
 use Rattle.paxos_packets.specs.Members.{IsMajority}
-use Rattle.paxos_packets.specs.Snapshot as taken
 use Rattle.paxos_packets.specs.Snapshot.{floor_in}
 use Rattle.paxos_packets.specs.declared.ballot.Ballot.{Ballot}
 use Rattle.paxos_packets.specs.declared.entry.Entry.{Entry}
@@ -87,7 +86,7 @@ module _ {B : Type 0} (same : B → B → Bool) (equal : IsEquality same) (membe
     (promised : (k : ℕ) → crew k ≡ true → (node_at (played same members events).nodes k).rows.promised ≡ Some b)
     (short : (k : ℕ) (v : Vote B) → crew k ≡ true → Has (node_at (played same members events).nodes k).rows.votes v
     → v.slot ≤ long + length vs)
-    (flat : (k : ℕ) → crew k ≡ true → (node_at (played same members events).nodes k).rows.snapshot ≡ None) where
+    (lows : (k : ℕ) → crew k ≡ true → floor_in (node_at (played same members events).nodes k).rows.snapshot ≤ long) where
   abbrev w : World B
   w = played same members events
 
@@ -95,10 +94,10 @@ module _ {B : Type 0} (same : B → B → Bool) (equal : IsEquality same) (membe
   held : (i : ℕ) (e : Entry B) → slice_get es i ≡ Some e → Holds members w.nodes crew (suc (long + i)) e
   held i e h =
       majorities_hold same equal members many events (suc (long + i)) e (chosen i e h) crew most
-      (λ k m t. subst (λ (o : Option taken.Snapshot). floor_in o < suc (long + i)) (sym (flat k t)) (above (long + i)))
+      (λ k m t. above (floor_in (node_at w.nodes k).rows.snapshot) (lows k t))
     where
-      above : (a : ℕ) → 0 < suc a
-      above a = omega arith
+      above : (a : ℕ) → a ≤ long → a < suc (long + i)
+      above a l = omega arith
 
   none_beyond : length es ≤ length vs
   none_beyond = ⊎_elim (λ (l : length vs < length es). absurd (go l)) (λ l. l) (cases_lt (length vs) (length es))

@@ -1,6 +1,6 @@
 -- A leader whose pass is done takes the act, and passes what is still pending and the act: then its log ends with the act's Item.
 use Rattle.std.proofs.Common.{◌≡◌, ⊎_elim, ℕ, suc, ◌+◌, ◌<◌, ◌≤◌, Bool, true, false, eqb, refl, sym, ap, ◌∙◌, subst, arith}
-use Rattle.std.proofs.Common.{List, [], ◌∷◌, ◌++◌, length, length-append, append_assoc, append-nil, None}
+use Rattle.std.proofs.Common.{List, [], ◌∷◌, ◌++◌, length, length-append, append_assoc, append-nil}
 use Rattle.std.specs.Prelude.{nat_lt}
 use Rattle.std.proofs.lemmas.Bool.{cond-true, and_from, lt-ltb, eq-eqb}
 use Rattle.std.proofs.lemmas.List.Sums.{fold-append}
@@ -9,14 +9,14 @@ use Rattle.cluster_world.proofs.Carrying.{carries}
 use Rattle.cluster_world.proofs.Casting.{HeardFrom}
 use Rattle.cluster_world.proofs.Chaining.{Chain, Finished, finishes}
 use Rattle.cluster_world.proofs.Concluding.{Ending, Rode_on, Went_down, concludes, put_all_cases, slots_within}
-use Rattle.cluster_world.proofs.Ends.{standing_both}
 use Rattle.cluster_world.proofs.EventsAtOnce.{all_rest}
 use Rattle.cluster_world.proofs.EveryWorld.{WorldOk, world_ok, play_on, whole_is}
 use Rattle.cluster_world.proofs.Filling.{length_map}
+use Rattle.cluster_world.proofs.Heads.{HeadsOk, heads_ok, standing_on, stands_under}
 use Rattle.cluster_world.proofs.Invariant.{VoteOf, LeadingOk, RoleOk, promises}
 use Rattle.cluster_world.proofs.Leading.{Bids, LeadsBy, pushes}
 use Rattle.cluster_world.proofs.Lists.{has_nil, has_left, has_filter}
-use Rattle.cluster_world.proofs.Leaving.{Kept, RodeOn, PassDone}
+use Rattle.cluster_world.proofs.Leaving.{Kept, long_of, RodeOn, PassDone}
 use Rattle.cluster_world.proofs.Passing.{Ready, Passed, among, counted_by}
 use Rattle.cluster_world.proofs.Playing.{Moved, moved, none_is, seat_or_not}
 use Rattle.cluster_world.proofs.Slots.{AreAfter, Ordered, new_ordered, behind_rest}
@@ -44,11 +44,11 @@ use Rattle.paxos_planning.specs.Plan.{begun}
 use Rattle.paxos_planning.specs.Proposals.{push}
 use Rattle.replica_machine.proofs.Places.{effective_is}
 use Rattle.replica_machine.specs.Effects.{is_effective}
-use Rattle.replica_machine.specs.declared.roll.Standing.TheVariants.{Live}
+use Rattle.replica_machine.specs.declared.roll.Standing.TheVariants.{Unknown, Live}
 use Rattle.replica_machine.specs.Roll.{standing, standing_from, is_next}
 use Rattle.cluster_world.specs.World.{World, node_at, first_world, next, play, played, under, log_of}
 use Rattle.cluster_world.specs.Rescue.{Apart, EndsWithAct}
-use Rattle.world_rescue.specs.Course.{Seat, pass, entries_of, propose_new}
+use Rattle.world_rescue.specs.Course.{Seat, floor_of, pass, entries_of, propose_new}
 
 -- the last Item takes effect after a log by which its node stands right before it
 pub last_effective : {B : Type 0} (n b taken t : ℕ) (x : B) (log : List (Entry B)) → standing n log ≡ Live b taken
@@ -61,14 +61,15 @@ last_effective n b taken t x log is =
     plus_one : (k : ℕ) → suc k ≡ k + 1
     plus_one k = omega arith
 
-module _ {B : Type 0} (same : B → B → Bool) (equal : IsEquality same) (members : ℕ) (three : 3 ≤ members) (two : 2 ≤ members) (n : ℕ)
-    (member : IsMember members n) (low : n < 8) (before : List (Event B)) (round : ℕ) (seats : List (Seat B)) (apart : Apart n seats)
+module _ {B : Type 0} (same : B → B → Bool) (equal : IsEquality same) (members : ℕ) (three : 3 ≤ members) (few : members ≤ 7)
+    (two : 2 ≤ members) (n : ℕ) (member : IsMember members n) (low : n < 8) (before : List (Event B)) (round : ℕ) (seats : List (Seat B))
+    (apart : Apart n seats)
     (others : (s : Seat B) → Has seats s → IsMember members s.number) (lows : (s : Seat B) → Has seats s → s.number < 8)
     (enough : is_majority members (among (n ∷ counted_by seats)) ≡ true) (k : Kept B) (had : Seat B → List (Vote B)) (most : ℕ)
     (fits : most + most_pending ≤ slot_end) (role : Role B) (vs : List (Vote B))
     (d : PassDone same equal members two n member round seats k had most role vs (played same members before))
-    (ride : RodeOn same equal members two n member round seats k role vs (node_at (played same members before).nodes n)) (transport : ℕ)
-    (body : B)
+    (ride : RodeOn same equal members two n member round seats k role vs (node_at (played same members before).nodes n))
+    (level : (s : Seat B) → Has seats s → floor_of s ≤ long_of k) (transport : ℕ) (body : B)
     (positive : 1 ≤ transport) (left : (node_at (played same members before).nodes n).taken < last_number)
     (room : length (node_at (played same members before).nodes n).pending < most_pending) where
   abbrev q : World B
@@ -123,8 +124,8 @@ module _ {B : Type 0} (same : B → B → Bool) (equal : IsEquality same) (membe
         promised = d.promised;
         cast = d.votes;
         role = role_z;
-        level = ride.level;
-        from_one = one d.next_is;
+        level = ride.level ∙ ap (λ o. floor_in o) (sym d.base);
+        above = subst (λ o. floor_in o < d.next) (sym d.base) (one (floor_in k.snapshot) (length k.log) (length vs) d.next d.next_is);
         learned = refl;
         log = refl;
         pending = refl;
@@ -136,8 +137,8 @@ module _ {B : Type 0} (same : B → B → Bool) (equal : IsEquality same) (membe
         out = λ v h j m e. has_left [] (d.out v h j m e);
       }
     where
-      one : {a c : ℕ} → a ≡ suc c → 1 ≤ a
-      one e = omega arith
+      one : (f a c next : ℕ) → next ≡ suc ((f + a) + c) → f < next
+      one f a c next e = omega arith
 
   abbrev pub role2 : Role B
   role2 = propose_new same (log_length z) (z.pending ++ item ∷ []) (Leading ballot d.next vs)
@@ -205,8 +206,12 @@ module _ {B : Type 0} (same : B → B → Bool) (equal : IsEquality same) (membe
   helper_is : (s : Seat B) → Has seats s → node_at p.nodes s.number ≡ node_at q.nodes s.number
   helper_is s h = ap (λ (w : World B). node_at w.nodes s.number) p_is ∙ m.others s.number (none_is n seats apart s h)
 
+  given_at : (s : Seat B) → Has seats s → (node_at p.nodes s.number).rows.snapshot ≡ s.node.rows.snapshot
+  given_at s h = ap (λ (x : NodeState B). x.rows.snapshot) (helper_is s h) ∙ (d.helpers s h).given_is
+
   ready : (s : Seat B) → Has seats s
-      → Ready same equal members two n member round x2 s.number (node_at p.nodes s.number).rows.votes (node_at p.nodes s.number)
+      → Ready same equal members two n member round x2 s.number (node_at p.nodes s.number).rows.snapshot
+      (node_at p.nodes s.number).rows.votes (node_at p.nodes s.number)
   ready s h =
       let r = d.helpers s h in
       let e = helper_is s h in
@@ -214,8 +219,8 @@ module _ {B : Type 0} (same : B → B → Bool) (equal : IsEquality same) (membe
         up = ap (λ (x : NodeState B). x.up) e ∙ r.up;
         promised = ap (λ (x : NodeState B). x.rows.promised) e ∙ r.promised;
         votes_are = refl;
-        plain = ap (λ (x : NodeState B). x.rows.snapshot) e ∙ r.plain;
-        level = ap (λ (x : NodeState B). x.learner.floor) e ∙ r.level;
+        given_is = refl;
+        level = ap (λ (x : NodeState B). x.learner.floor) e ∙ (r.level ∙ ap (λ o. floor_in o) (sym (given_at s h)));
         own = subst (λ (x : NodeState B). HeardFrom ballot 0 s.number x.learner) (sym e) r.own;
         rests = subst (λ x. AtRest x) (sym e) r.rests;
       }
@@ -223,24 +228,40 @@ module _ {B : Type 0} (same : B → B → Bool) (equal : IsEquality same) (membe
   abbrev pub vs2 : List (Vote B)
   vs2 = behind (log_length z) (proposals_of role2)
 
-  flat_x : x2.rows.snapshot ≡ None
-  flat_x = bids.base ∙ d.plain
-
-  bare : log_length z ≡ length z.applied
-  bare = ap (λ o. floor_in o + length z.applied) d.plain ∙ none_under (length z.applied)
-    where
-      none_under : (a : ℕ) → 0 + a ≡ a
-      none_under a = omega arith
-
   long_x : log_length x2 ≡ log_length z
   long_x = λ i. floor_in (bids.base i) + length (bids.log i)
 
-  passed : Passed same equal members two n member round x2 seats (λ j. (node_at p.nodes j).rows.votes) vs2 [] p
-      (play same members (pass n seats vs2) p)
+  z_length : log_length z ≡ long_of k + length vs
+  z_length =
+      (λ i. floor_in (d.base i) + length (ride.log i))
+      ∙ (ap (λ c. floor_in k.snapshot + c)
+      (length-append k.log (entries_of vs) ∙ ap (λ c. length k.log + c) (length_map (λ (u : Vote B). u.entry) vs))
+      ∙ regroup (floor_in k.snapshot) (length k.log) (length vs))
+    where
+      regroup : (a b c : ℕ) → a + (b + c) ≡ (a + b) + c
+      regroup a b c = omega arith
+
+  -- no floor is above its log
+  own_low : floor_in x2.rows.snapshot ≤ log_length z
+  own_low = subst (λ o. floor_in o ≤ log_length z) (sym bids.base) (within (floor_in z.rows.snapshot) (length z.applied))
+    where
+      within : (a c : ℕ) → a ≤ a + c
+      within a c = omega arith
+
+  seats_low : (s : Seat B) → Has seats s → floor_in (node_at p.nodes s.number).rows.snapshot ≤ log_length z
+  seats_low s h =
+      subst (λ o. floor_in o ≤ log_length z) (sym (given_at s h))
+      (subst (λ a. floor_of s ≤ a) (sym z_length) (further (floor_of s) (long_of k) (length vs) (level s h)))
+    where
+      further : (a b c : ℕ) → a ≤ b → a ≤ b + c
+      further a b c l = omega arith
+
+  passed : Passed same equal members two n member round x2 seats (λ j. (node_at p.nodes j).rows.snapshot)
+      (λ j. (node_at p.nodes j).rows.votes) vs2 [] p (play same members (pass n seats vs2) p)
   passed =
       carries same equal members two n member low round p (world_ok same equal members two taken_events) k.votes y role2 bids seats apart
       others lows
-      enough flat_x (log_length z) ready
+      enough (log_length z) own_low seats_low ready
 
   -- each other node that was up stays up
   still_seat : (s : Seat B) → Has seats s → (j : ℕ) → s.number ≡ j → (node_at (play same members (pass n seats vs2) p).nodes j).up ≡ true
@@ -255,14 +276,8 @@ module _ {B : Type 0} (same : B → B → Bool) (equal : IsEquality same) (membe
 
   -- what is proposed: what is pending, in order, and the act
 
-  z_length : log_length z ≡ length k.log + length vs
-  z_length =
-      bare
-      ∙ (ap (λ (l : List (Entry B)). length l) ride.log
-      ∙ (length-append k.log (entries_of vs) ∙ ap (λ c. length k.log + c) (length_map (λ (u : Vote B). u.entry) vs)))
-
   old : (u : Vote B) → Has vs u → u.slot ≤ log_length z
-  old u h = subst (λ c. u.slot ≤ c) (sym z_length) (slots_within (length k.log) vs u d.after h)
+  old u h = subst (λ c. u.slot ≤ c) (sym z_length) (slots_within (long_of k) vs u d.after h)
 
   module _ (chain : Chain n z.rows.boot z.taken (standing_of z n) z.pending) where
     abbrev Ended : Role B → Type 0
@@ -282,14 +297,14 @@ module _ {B : Type 0} (same : B → B → Bool) (equal : IsEquality same) (membe
     abbrev new : List (Vote B)
     new = f.ws ++ next_vote ballot f.slot item ∷ []
 
-    after_all : AreAfter (length k.log) (vs ++ new)
+    after_all : AreAfter (long_of k) (vs ++ new)
     after_all =
-        (subst (λ r. Ordered (length k.log) r) f.is
-        (new_ordered same (log_length z) (length k.log) (z.pending ++ item ∷ []) (Leading ballot d.next vs) (d.next_is, d.after))).1
+        (subst (λ r. Ordered (long_of k) r) f.is
+        (new_ordered same (log_length z) (long_of k) (z.pending ++ item ∷ []) (Leading ballot d.next vs) (d.next_is, d.after))).1
 
     rest_is : (behind (log_length z) (vs ++ new) ≡ new) × AreAfter (log_length z) new
     rest_is =
-        subst (λ c. (behind c (vs ++ new) ≡ new) × AreAfter c new) (sym z_length) (behind_rest (length k.log) vs new after_all)
+        subst (λ c. (behind c (vs ++ new) ≡ new) × AreAfter c new) (sym z_length) (behind_rest (long_of k) vs new after_all)
 
     vs2_is : vs2 ≡ new
     vs2_is = ap (λ (r : Role B). behind (log_length z) (proposals_of r)) f.is ∙ rest_is.0
@@ -309,8 +324,8 @@ module _ {B : Type 0} (same : B → B → Bool) (equal : IsEquality same) (membe
         (subst (λ l. u.slot ≤ log_length z + length l) (sym vs2_is)
         (⊎_elim (λ (e : j ≡ n). mine (subst (λ i. Has (node_at p.nodes i).rows.votes u) e h) e) (λ s. helper s.0 s.1 s.2) (d.in_crew j c)))
       where
-        further : (a : ℕ) → a ≤ length k.log + length vs → a ≤ log_length z + length new
-        further a l = go a (length k.log + length vs) (log_length z) (length new) z_length l
+        further : (a : ℕ) → a ≤ long_of k + length vs → a ≤ log_length z + length new
+        further a l = go a (long_of k + length vs) (log_length z) (length new) z_length l
           where
             go : (a b c e : ℕ) → c ≡ b → a ≤ b → a ≤ c + e
             go a b c e i l = omega arith
@@ -333,14 +348,15 @@ module _ {B : Type 0} (same : B → B → Bool) (equal : IsEquality same) (membe
         (node_at (play same members (pass n seats vs2) p).nodes n)
     ending =
         concludes same equal members three two n member round taken_events (pass n seats vs2) seats vs2 (proposals_of role2) k.votes
-        (length k.log)
+        (long_of k)
         passed
         (subst (λ a. AreAfter a vs2) (sym long_x)
         (subst (λ l. AreAfter (log_length z) l) (sym vs2_is) rest_is.1))
-        (subst (λ l. AreAfter (length k.log) l) (sym table_is) after_all)
+        (subst (λ l. AreAfter (long_of k) l) (sym table_is) after_all)
         (λ u h. has_filter (λ (w : Vote B). nat_lt (log_length z) w.slot) (proposals_of role2) h) bids.cast bids.promised
         (λ u h. bids.mine u (has_filter (λ (w : Vote B). nat_lt (log_length z) w.slot) (proposals_of role2) h)) d.crew d.enough
-        d.in_crew short flat_x
+        d.in_crew short
+        (λ s h. subst (λ a. floor_in (node_at p.nodes s.number).rows.snapshot ≤ a) (sym long_x) (seats_low s h))
 
     abbrev final : World B
     final = play same members (pass n seats vs2) p
@@ -359,25 +375,45 @@ module _ {B : Type 0} (same : B → B → Bool) (equal : IsEquality same) (membe
         go (Went_down e h) = absurd (off (sym no_end_is ∙ h))
         go (Rode_on r) =
             record {
-              before = z.applied ++ entries_of f.ws;
+              before = below ++ (z.applied ++ entries_of f.ws);
               item = suc z.taken;
-              is = log_is ∙ ap (λ b. (z.applied ++ entries_of f.ws) ++ Item n b (suc z.taken) transport body ∷ []) (sym boot_is);
+              is = log_is ∙ ap (λ b. (below ++ (z.applied ++ entries_of f.ws)) ++ Item n b (suc z.taken) transport body ∷ []) (sym boot_is);
               takes_effect =
-                  ap (λ b. is_effective (z.applied ++ entries_of f.ws) (Item n b (suc z.taken) transport body)) boot_is
-                  ∙ last_effective n z.rows.boot z.taken transport body (z.applied ++ entries_of f.ws)
-                  (standing_both n z.applied (entries_of f.ws)
-                  ∙ ((λ i. standing_from n (standing_from n (stands_at (sym d.plain i) n) z.applied) (entries_of f.ws)) ∙ f.stands_is));
+                  ap (λ b. is_effective (below ++ (z.applied ++ entries_of f.ws)) (Item n b (suc z.taken) transport body)) boot_is
+                  ∙ last_effective n z.rows.boot z.taken transport body (below ++ (z.applied ++ entries_of f.ws)) stood;
             }
           where
             boot_is : (node_at final.nodes n).rows.boot ≡ z.rows.boot
             boot_is = ap (λ w. w.boot) r.rows ∙ bids.boot
 
-            log_is : log_of final n ≡ (z.applied ++ entries_of f.ws) ++ item ∷ []
+            -- up to the floor the log is what the snapshot stands for, and there the nodes stand as its head tells
+            below : List (Entry B)
+            below = under final.cuts (node_at final.nodes n).rows.snapshot
+
+            base_is : (node_at final.nodes n).rows.snapshot ≡ z.rows.snapshot
+            base_is = ap (λ w. w.snapshot) r.rows ∙ bids.base
+
+            heads : HeadsOk final
+            heads =
+                subst (λ (w : World B). HeadsOk w) (play_on same members taken_events (pass n seats vs2) (first_world members))
+                (heads_ok same equal members few (taken_events ++ pass n seats vs2))
+
+            stood : standing n (below ++ (z.applied ++ entries_of f.ws)) ≡ Live z.rows.boot z.taken
+            stood =
+                standing_on n Unknown below (z.applied ++ entries_of f.ws)
+                ∙ (ap (λ s. standing_from n s (z.applied ++ entries_of f.ws))
+                (sym (stands_under final heads (node_at final.nodes n).rows.snapshot (passed.knows.ok.cuts.found.nodes n) n))
+                ∙ (standing_on n (stands_at (node_at final.nodes n).rows.snapshot n) z.applied (entries_of f.ws)
+                ∙ ((λ i. standing_from n (standing_from n (stands_at (base_is i) n) z.applied) (entries_of f.ws)) ∙ f.stands_is)))
+
+            log_is : log_of final n ≡ (below ++ (z.applied ++ entries_of f.ws)) ++ item ∷ []
             log_is =
-                whole_is final.cuts (node_at final.nodes n) r.up ∙ ((λ i. under final.cuts (r.plain i) ++ (node_at final.nodes n).applied)
-                ∙ (r.log
+                whole_is final.cuts (node_at final.nodes n) r.up
+                ∙ (ap (λ l. below ++ l)
+                (r.log
                 ∙ ((λ i. bids.log i ++ entries_of (vs2_is i))
-                ∙ (ap (λ l. z.applied ++ l) f.entries ∙ sym (append_assoc z.applied (entries_of f.ws) (item ∷ []))))))
+                ∙ (ap (λ l. z.applied ++ l) f.entries ∙ sym (append_assoc z.applied (entries_of f.ws) (item ∷ [])))))
+                ∙ sym (append_assoc below (z.applied ++ entries_of f.ws) (item ∷ [])))
 
     pub leads_on : EndsWithAct final n transport body
         × ((j : ℕ) → (j ≡ n → ⊥) → (node_at q.nodes j).up ≡ true → (node_at final.nodes j).up ≡ true)

@@ -42,11 +42,11 @@ LeadsBy b most Idle = ⊥
 LeadsBy b most (Preparing c first cs) = ⊥
 LeadsBy b most (Leading c next table) = (c ≡ b) × (next ≤ most)
 
--- a leader goes on in no slot 0
-abbrev pub FromOne : {B : Type 0} → Role B → Type 0
-FromOne Idle = Unit {0}
-FromOne (Preparing c first cs) = Unit {0}
-FromOne (Leading c next table) = 1 ≤ next
+-- a leader goes on above this floor
+abbrev pub IsAbove : {B : Type 0} → ℕ → Role B → Type 0
+IsAbove floor Idle = Unit {0}
+IsAbove floor (Preparing c first cs) = Unit {0}
+IsAbove floor (Leading c next table) = floor < next
 
 -- from which slot on nobody else can have been heard: from the next one of a leader
 abbrev pub fresh_from : {B : Type 0} → Role B → ℕ
@@ -115,8 +115,8 @@ module _ {B : Type 0} (same : B → B → Bool) (members : ℕ) (many : 2 ≤ me
     pub promised : x.rows.promised ≡ Some b
     pub cast : x.rows.votes ≡ put_votes (proposals_of r) votes
     pub role : x.proposer.role ≡ r
-    pub level : x.learner.floor ≡ 0
-    pub from_one : FromOne r
+    pub level : x.learner.floor ≡ floor_in y.rows.snapshot
+    pub above : IsAbove (floor_in y.rows.snapshot) r
     pub learned : x.learner.learned ≡ y.learner.learned
     pub log : x.applied ≡ y.applied
     pub pending : x.pending ≡ y.pending
@@ -145,7 +145,7 @@ module _ {B : Type 0} (same : B → B → Bool) (members : ℕ) (many : 2 ≤ me
           cast = ap (put_vote v) ok.cast ∙ sym (fold-append (λ us w. put_vote w us) votes table (v ∷ []));
           role = cond-false (below b b) Idle (Leading b (suc next) (table ++ v ∷ [])) (irreflexive b);
           level = ap (λ (x : LearnerState B). x.floor) quiet ∙ ok.level;
-          from_one = omega arith;
+          above = further (floor_in y.rows.snapshot) next ok.above;
           learned = ap (λ (x : LearnerState B). x.learned) quiet ∙ ok.learned;
           log = ok.log;
           pending = ok.pending;
@@ -180,7 +180,11 @@ module _ {B : Type 0} (same : B → B → Bool) (members : ℕ) (many : 2 ≤ me
             ap (λ r. propose_as same members n r e t) ok.role ∙ cond-true (nat_lt next slot_end) u t (lt-ltb next slot_end l)
 
         quiet : count_vote members n v t.node.learner ≡ hears n v t.node.learner
-        quiet = counts_own members many b next n v t.node.learner ok.level ok.from_one refl (omega arith) ok.own
+        quiet =
+            counts_own members many b next n v t.node.learner (subst (λ f. f < next) (sym ok.level) ok.above) refl (omega arith) ok.own
+
+        further : (f k : ℕ) → f < k → f < suc k
+        further f k h = omega arith
 
     -- it goes on as a leader
     abbrev pub Goes : ℕ → Plan B → Role B → Type 0
@@ -322,8 +326,8 @@ module _ {B : Type 0} (same : B → B → Bool) (members : ℕ) (many : 2 ≤ me
         known (Leading d next table) q = q
 
         -- the ballot is idle but for this
-        bare : (r : Role B) → proposals_of r ≡ [] → FromOne r → At (record t { node = with_role r t.node }) r
-        bare r none from_one =
+        bare : (r : Role B) → proposals_of r ≡ [] → IsAbove (floor_in y.rows.snapshot) r → At (record t { node = with_role r t.node }) r
+        bare r none above =
             record {
               up = ok.up;
               boot = ok.boot;
@@ -332,7 +336,7 @@ module _ {B : Type 0} (same : B → B → Bool) (members : ℕ) (many : 2 ≤ me
               cast = ok.cast ∙ ap (λ l. put_votes l votes) (sym none);
               role = refl;
               level = ok.level;
-              from_one = from_one;
+              above = above;
               learned = ok.learned;
               log = ok.log;
               pending = ok.pending;
@@ -344,8 +348,8 @@ module _ {B : Type 0} (same : B → B → Bool) (members : ℕ) (many : 2 ≤ me
               out = λ v i. absurd (has_nil (subst (λ l. Has l v) none i));
             }
 
-        least : {a : ℕ} → own < a → 1 ≤ a
-        least l = omega arith
+        floor_at : floor_in y.rows.snapshot < f
+        floor_at = subst (λ k. k < f) (sym is_own) own_at
 
         LedAt : ℕ → ℕ → Type 0
         LedAt a d =
@@ -355,7 +359,7 @@ module _ {B : Type 0} (same : B → B → Bool) (members : ℕ) (many : 2 ≤ me
         led_first : LedAt f f
         led_first =
             let g =
-            leads f past most es (record t { node = with_role (Leading b f []) t.node }) (bare (Leading b f []) refl (least own_at))
+            leads f past most es (record t { node = with_role (Leading b f []) t.node }) (bare (Leading b f []) refl floor_at)
             (subst (λ z. z + length (called_for z (reports more)) ≤ past) (sym e.1) (called_below first past (reports more) low' all_below))
             room h in
             subst

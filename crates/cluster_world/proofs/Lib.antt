@@ -46,6 +46,9 @@ pub mod Playing
 pub mod Casting
 pub mod Looking
 pub mod Opening
+pub mod Fetching
+pub mod Levelling
+pub mod Rebeginning
 pub mod Leading
 pub mod Promising
 pub mod Ends

@@ -6,15 +6,15 @@ use Rattle.paxos_proposer.specs.Proposer.{round_end, slot_end}
 use Rattle.paxos_node.specs.Events.{last_number, most_pending}
 use Rattle.cluster_world.specs.Rescue.{last_rescue_round, last_rescue_slot}
 
-pub last_round : suc (suc (suc last_rescue_round)) < round_end
+pub last_round : suc (suc (suc (suc last_rescue_round))) < round_end
 unfolding last_rescue_round round_end
-last_round = ltb-true 281474976710651 281474976710656 refl
+last_round = ltb-true 281474976710652 281474976710656 refl
 
 -- a round more, and another one
-pub rounds_fit : (r : ℕ) → r ≤ suc last_rescue_round → (suc r < round_end) × (suc (suc r) < round_end)
+pub rounds_fit : (r : ℕ) → r ≤ suc (suc last_rescue_round) → (suc r < round_end) × (suc (suc r) < round_end)
 rounds_fit r l = go last_rescue_round round_end l last_round
   where
-    go : (a e : ℕ) → r ≤ suc a → suc (suc (suc a)) < e → (suc r < e) × (suc (suc r) < e)
+    go : (a e : ℕ) → r ≤ suc (suc a) → suc (suc (suc (suc a))) < e → (suc r < e) × (suc (suc r) < e)
     go a e h g = (omega arith, omega arith)
 
 -- the slots of a course

@@ -1,7 +1,7 @@
 -- A whole pass, from the start of its ballot to the votes for all that was proposed.
 use Rattle.std.proofs.Common.{◌≡◌, ◌⊎◌, inl, inr, ⊎_elim, ℕ, suc, ◌+◌, ◌-◌, ◌<◌, ◌≤◌, Bool, true, false, refl, sym, ap, ◌∙◌, subst}
 use Rattle.std.proofs.Common.{arith}
-use Rattle.std.proofs.Common.{List, [], ◌∷◌, ◌++◌, length, Some, None}
+use Rattle.std.proofs.Common.{List, [], ◌∷◌, ◌++◌, length, Some}
 use Rattle.std.specs.Prelude.{fold}
 use Rattle.std.proofs.lemmas.Bool.{cases_lt, ltb-true}
 use Rattle.cluster_world.proofs.AcceptorTests.{from_has, has_from}
@@ -33,7 +33,7 @@ use Rattle.paxos_packets.specs.declared.ballot.Ballot.{Ballot}
 use Rattle.paxos_packets.specs.declared.entry.Entry.{Entry}
 use Rattle.paxos_packets.specs.declared.packet.Kind.TheVariants.{Accept}
 use Rattle.paxos_learner.specs.Tallies.{place_of}
-use Rattle.replica_machine.specs.Roll.{standing, standings, standings_from}
+use Rattle.replica_machine.specs.Roll.{standings_from}
 use Rattle.paxos_node.specs.Adopting.{pending_behind}
 use Rattle.paxos_node.specs.Applying.{standing_of, stands_at, down, has_end}
 use Rattle.paxos_packets.specs.declared.vote.Vote.{Vote}
@@ -116,73 +116,78 @@ module _ {B : Type 0} (same : B → B → Bool) (equal : IsEquality same) (membe
   module _ (from : first ≤ past) (room : past + length y.pending ≤ most) (slots : most ≤ slot_end)
       (mays : (s : Seat B) → Has seats s → may_promise (now s).rows.promised ballot ≡ true)
       (votes_are : (s : Seat B) → Has seats s → (now s).rows.votes ≡ put_votes cast s.node.rows.votes)
-      (own_votes : x.rows.votes ≡ put_votes cast own.node.rows.votes)
-      (plains : (s : Seat B) → Has seats s → s.node.rows.snapshot ≡ None) (own_plain : own.node.rows.snapshot ≡ None)
-      (flats : (s : Seat B) → Has seats s → (now s).rows.snapshot ≡ None) (flat : x.rows.snapshot ≡ None)
+      (own_votes : votes_from first x.rows.votes ≡ votes_then first cast own)
+      (bases : (s : Seat B) → Has seats s → (now s).rows.snapshot ≡ s.node.rows.snapshot) (base : x.rows.snapshot ≡ own.node.rows.snapshot)
+      (floors : (s : Seat B) → Has seats s → floor_of s ≤ log_length x)
       (belows : (s : Seat B) → Has seats s → AreBelow past (votes_then first cast s))
       (own_below : AreBelow past (votes_then first cast own))
       (heard : HeardOwn ballot n x.learner) (eights : AreEights x.learner.heard)
       (heards : (s : Seat B) → Has seats s → HeardOwn ballot s.number (now s).learner)
       (enough : is_majority members (among (fold (λ ks s. s.number ∷ ks) (n ∷ []) seats)) ≡ true)
       (enough_too : is_majority members (among (n ∷ counted_by seats)) ≡ true) where
-    level_of : (k : ℕ) → (node_at u.nodes k).rows.snapshot ≡ None → (node_at u.nodes k).learner.floor ≡ 0
-    level_of k e = all_floors same members before k ∙ ap (λ o. floor_in o) e
+    level : x.learner.floor ≡ floor_in x.rows.snapshot
+    level = all_floors same members before n
 
-    level : x.learner.floor ≡ 0
-    level = level_of n flat
+    levels : (s : Seat B) → Has seats s → (now s).learner.floor ≡ floor_in (now s).rows.snapshot
+    levels s h = subst (λ z. z.learner.floor ≡ floor_in z.rows.snapshot) (are s h) (all_floors same members before s.number)
 
-    levels : (s : Seat B) → Has seats s → (now s).learner.floor ≡ 0
-    levels s h =
-        ap (λ (z : NodeState B). z.learner.floor) (sym (are s h))
-        ∙ level_of s.number (ap (λ (z : NodeState B). z.rows.snapshot) (are s h) ∙ flats s h)
+    own_floor : floor_of own ≤ log_length x
+    own_floor = subst (λ o. floor_in o ≤ log_length x) base (within (floor_in x.rows.snapshot) (length x.applied))
+      where
+        within : (a c : ℕ) → a ≤ a + c
+        within a c = omega arith
 
-    floors : (s : Seat B) → Has seats s → floor_of s ≡ 0
-    floors s h = ap (λ k. floor_in k) (plains s h)
+    up_one : (a c : ℕ) → a ≤ c → a < suc c
+    up_one a c l = omega arith
 
-    own_floor : floor_of own ≡ 0
-    own_floor = ap (λ k. floor_in k) own_plain
-
-    under : (a b : ℕ) → a ≡ 0 → a < suc b
-    under a b e = omega arith
+    unders : (s : Seat B) → Has seats s → floor_of s < first
+    unders s h = up_one (floor_of s) (log_length x) (floors s h)
 
     -- the node leads
     leads : is_leading role ≡ true
     leads =
         bidding.leads same equal members two n member low u own number seats apart others now are ups rests up rest seen is_seen sees rounds
         cast past
-        most from room slots mays votes_are own_votes flats plains flat own_plain belows own_below level heard eights enough
+        most from room slots mays votes_are own_votes bases unders base belows own_below level heard eights enough
 
     abbrev Bid : Type 0
     Bid = bidding.KnowsIt same equal members two n member low u own number seats apart others now are ups rests up rest seen is_seen sees
         rounds cast
-        past most from room slots mays votes_are own_votes flats plains flat own_plain belows own_below level heard eights enough p role
+        past most from room slots mays votes_are own_votes bases unders base belows own_below level heard eights enough p role
 
     bid : Bid
     bid =
         (bidding.bid same equal members two n member low u own number seats apart others now are ups rests up rest seen is_seen sees rounds
         cast past
-        most from room slots mays votes_are own_votes flats plains flat own_plain belows own_below level heard eights enough).own
+        most from room slots mays votes_are own_votes bases unders base belows own_below level heard eights enough).own
 
     helper_is : (s : Seat B) → Has seats s
-        → Ready same equal members two n member (suc seen) (node_at p.nodes n) s.number (now s).rows.votes (node_at p.nodes s.number)
+        → Ready same equal members two n member (suc seen) (node_at p.nodes n) s.number (now s).rows.snapshot (now s).rows.votes
+        (node_at p.nodes s.number)
     helper_is s h =
-        subst (λ z. Ready same equal members two n member (suc seen) (node_at p.nodes n) s.number (now s).rows.votes z)
+        subst (λ z. Ready same equal members two n member (suc seen) (node_at p.nodes n) s.number (now s).rows.snapshot (now s).rows.votes z)
         (sym
         ((bidding.bid same equal members two n member low u own number seats apart others now are ups rests up rest seen is_seen sees rounds
         cast past
-        most from room slots mays votes_are own_votes flats plains flat own_plain belows own_below level heard eights enough).helpers s h))
+        most from room slots mays votes_are own_votes bases unders base belows own_below level heard eights enough).helpers s h))
         (ready_after same equal members two n member low (suc seen) (node_at p.nodes n) (now s) s.number first (ups s h) (rests s h)
-        (mays s h)
-        (flats s h) (levels s h)
-        (heards s h))
+        (mays s h) (levels s h) (heards s h))
 
     -- what a helper has is what it reported, or below the first slot
     ready : (s : Seat B) → Has seats s
-        → Ready same equal members two n member (suc seen) (node_at p.nodes n) s.number (node_at p.nodes s.number).rows.votes
-        (node_at p.nodes s.number)
+        → Ready same equal members two n member (suc seen) (node_at p.nodes n) s.number (node_at p.nodes s.number).rows.snapshot
+        (node_at p.nodes s.number).rows.votes (node_at p.nodes s.number)
     ready s h =
         let r = helper_is s h in
-        record { up = r.up; promised = r.promised; votes_are = refl; plain = r.plain; level = r.level; own = r.own; rests = r.rests }
+        record {
+          up = r.up;
+          promised = r.promised;
+          given_is = refl;
+          votes_are = refl;
+          level = r.level ∙ ap (λ o. floor_in o) (sym r.given_is);
+          own = r.own;
+          rests = r.rests;
+        }
 
     p_is : played same members (before ++ leading) ≡ p
     p_is = play_on same members before leading (first_world members)
@@ -190,72 +195,66 @@ module _ {B : Type 0} (same : B → B → Bool) (equal : IsEquality same) (membe
     ok : WorldOk members p
     ok = subst (λ w. WorldOk members w) p_is (world_ok same equal members two (before ++ leading))
 
-    -- the node rests on nothing
-    flat_y : y.rows.snapshot ≡ None
-    flat_y = ap (λ (z : NodeState B). z.rows.snapshot) y_is ∙ flat
-
-    flat_p : (node_at p.nodes n).rows.snapshot ≡ None
-    flat_p = bid.bids.base ∙ flat_y
-
-    bare : (z : NodeState B) → z.rows.snapshot ≡ None → log_length z ≡ length z.applied
-    bare z e = ap (λ o. floor_in o + length z.applied) e ∙ none_under (length z.applied)
-      where
-        none_under : (a : ℕ) → 0 + a ≡ a
-        none_under a = omega arith
-
     long_is : log_length y ≡ log_length x
     long_is = ap (λ (z : NodeState B). log_length z) y_is
 
-    stands_p : standing_of (node_at p.nodes n) ≡ standings (node_at p.nodes n).applied
-    stands_p = λ i. standings_from (stands_at (flat_p i)) (node_at p.nodes n).applied
+    stands_p : standing_of (node_at p.nodes n) ≡ standing_of y
+    stands_p = λ i. standings_from (stands_at (bid.bids.base i)) (bid.bids.log i)
 
     long_p : log_length (node_at p.nodes n) ≡ log_length y
     long_p = (λ i. floor_in (bid.bids.base i) + length (bid.bids.log i))
 
+    -- no floor is above the log
+    own_le : floor_of own ≤ log_length y
+    own_le = subst (λ a. floor_of own ≤ a) (sym long_is) own_floor
+
+    seats_le : (s : Seat B) → Has seats s → floor_of s ≤ log_length y
+    seats_le s h = subst (λ a. floor_of s ≤ a) (sym long_is) (floors s h)
+
+    own_low : floor_in (node_at p.nodes n).rows.snapshot ≤ log_length y
+    own_low = subst (λ o. floor_in o ≤ log_length y) (sym bid.bids.base) (within (floor_in y.rows.snapshot) (length y.applied))
+      where
+        within : (a c : ℕ) → a ≤ a + c
+        within a c = omega arith
+
+    seats_low : (s : Seat B) → Has seats s → floor_in (node_at p.nodes s.number).rows.snapshot ≤ log_length y
+    seats_low s h = subst (λ o. floor_in o ≤ log_length y) (sym ((helper_is s h).given_is ∙ bases s h)) (seats_le s h)
+
     -- all that was proposed is carried to the helpers, and back
-    pub one_pass : Passed same equal members two n member (suc seen) (node_at p.nodes n) seats (λ k. (node_at p.nodes k).rows.votes) vs [] p
-        (play same members (pass n seats vs) p)
+    pub one_pass : Passed same equal members two n member (suc seen) (node_at p.nodes n) seats (λ k. (node_at p.nodes k).rows.snapshot)
+        (λ k. (node_at p.nodes k).rows.votes) vs [] p (play same members (pass n seats vs) p)
     one_pass =
         carries same equal members two n member low (suc seen) p ok x.rows.votes y role bid.bids seats apart others lows enough_too
-        flat_p (log_length y) ready
+        (log_length y) own_low seats_low ready
 
     -- it leads with a majority behind it, and its proposals follow its log
-    log_is : y.applied ≡ x.applied
-    log_is =
-        ap (λ (z : NodeState B). z.applied)
-        (bidding.started same equal members two n member low u own number seats apart others now are ups rests up rest seen is_seen sees
-        rounds cast past
-        most).own
-
     ordered : Ordered (log_length y) role
     ordered =
-        led_ordered same members (log_length y) y.pending ballot (log_length y) (floor_of own) (least (floor_of own) (log_length y) own_floor)
+        led_ordered same members (log_length y) y.pending ballot (log_length y) (floor_of own) own_le
         (λ s. votes_then first cast s) seats (asking own.number ballot first (floor_of own) (votes_then first cast own))
-        (λ s h. least (floor_of s) (log_length y) (floors s h)) (
+        seats_le (
           ap suc (sym long_is),
-          λ c h. subst (λ (z : CountedPromise B). z.floor ≤ log_length y) (has_one h) (least (floor_of own) (log_length y) own_floor),
+          λ c h. subst (λ (z : CountedPromise B). z.floor ≤ log_length y) (has_one h) own_le,
         )
-      where
-        least : (a b : ℕ) → a ≡ 0 → a ≤ b
-        least a b e = omega arith
 
     abbrev Promised : CountedPromise B → Type 0
     Promised c = IsPromise first cast own seats c
 
     own_under : floor_of own < first
-    own_under = under (floor_of own) (log_length x) own_floor
+    own_under = up_one (floor_of own) (log_length x) own_floor
 
     promised_under : (c : CountedPromise B) → Promised c → c.floor < first
     promised_under c (Own e) = subst (λ (d : CountedPromise B). d.floor < first) (sym e) own_under
     promised_under c (Seated s h e) =
-        subst (λ (d : CountedPromise B). d.floor < first) (sym e) (under (floor_of s) (log_length x) (floors s h))
+        subst (λ (d : CountedPromise B). d.floor < first) (sym e) (unders s h)
 
     backed : Backed same members (log_length y) y.pending ballot first (floor_of own) own_under Promised promised_under role
     backed =
         ⊎_elim (λ b. b)
         (λ (a : Asks same members (log_length y) y.pending ballot first (floor_of own) own_under Promised promised_under role). absurd (off
         (sym (ap (λ r. is_leading r) a.role) ∙ leads)))
-        (hears_all same members (log_length y) y.pending ballot first (floor_of own) own_under Promised promised_under (λ s. votes_then first cast s) seats
+        (hears_all same members (log_length y) y.pending ballot first (floor_of own) own_under Promised promised_under
+        (λ s. votes_then first cast s) seats
         (asking own.number ballot first (floor_of own) (votes_then first cast own)) (λ s h. Seated s h refl)
         (inr (record {
           cs = record { node = own.number; floor = floor_of own; votes = votes_then first cast own } ∷ [];
@@ -323,16 +322,18 @@ module _ {B : Type 0} (same : B → B → Bool) (equal : IsEquality same) (membe
     short : (k : ℕ) (v : Vote B) → crew k ≡ true → Has (node_at p.nodes k).rows.votes v → v.slot ≤ log_length y + length table
     short k v t h = let c = counted_is backed.cs k t in go c.0 c.1 (backed.from c.0 c.1) c.2
       where
-        own_case : (c : CountedPromise B) → Has backed.cs c → c ≡ record { node = own.number; floor = floor_of own; votes = votes_then first cast own } → k ≡ n
+        own_case : (c : CountedPromise B) → Has backed.cs c
+            → c ≡ record { node = own.number; floor = floor_of own; votes = votes_then first cast own } → k ≡ n
             → v.slot ≤ log_length y + length table
         own_case c i e at_n =
             ⊎_elim (λ g. slots_within (log_length y) table v after_table g)
-            (λ g. held c i x.rows.votes (ap (λ (d : CountedPromise B). d.votes) e ∙ ap (λ l. votes_from first l) (sym own_votes)) v g)
+            (λ g. held c i x.rows.votes (ap (λ (d : CountedPromise B). d.votes) e ∙ sym own_votes) v g)
             (put_all_cases table x.rows.votes v (subst (λ l. Has l v) bid.bids.cast
             (subst (λ j. Has (node_at p.nodes j).rows.votes v) at_n h)))
 
         seat_case : (c : CountedPromise B) → Has backed.cs c → (s : Seat B) → Has seats s
-            → c ≡ record { node = s.number; floor = floor_of s; votes = votes_then first cast s } → s.number ≡ k → v.slot ≤ log_length y + length table
+            → c ≡ record { node = s.number; floor = floor_of s; votes = votes_then first cast s } → s.number ≡ k
+            → v.slot ≤ log_length y + length table
         seat_case c i s g e at_s =
             held c i (now s).rows.votes (ap (λ (d : CountedPromise B). d.votes) e ∙ ap (λ l. votes_from first l) (sym (votes_are s g))) v
             (subst (λ l. Has l v) (helper_is s g).votes_are (subst (λ j. Has (node_at p.nodes j).rows.votes v) (sym at_s) h))
@@ -348,7 +349,7 @@ module _ {B : Type 0} (same : B → B → Bool) (equal : IsEquality same) (membe
         concludes same equal members three two n member (suc seen) (before ++ leading) (pass n seats vs) seats vs table x.rows.votes
         (log_length y)
         (at_p (λ w. Passed same equal members two n member (suc seen) (node_at w.nodes n) seats
-        (λ k. (node_at w.nodes k).rows.votes) vs [] w
+        (λ k. (node_at w.nodes k).rows.snapshot) (λ k. (node_at w.nodes k).rows.votes) vs [] w
         (play same members (pass n seats vs) w)) one_pass)
         (at_p (λ w. AreAfter (log_length (node_at w.nodes n)) vs)
         (subst (λ l. AreAfter l vs) (sym long_p) (subst (λ l. AreAfter (log_length y) l) (sym vs_is) after_table)))
@@ -360,7 +361,8 @@ module _ {B : Type 0} (same : B → B → Bool) (equal : IsEquality same) (membe
         (subst (λ a. v.slot ≤ a + length vs) (sym long_p)
         (subst (λ l. v.slot ≤ log_length y + length l) (sym vs_is) (short k v t
         (subst (λ w. Has (node_at w.nodes k).rows.votes v) p_is h)))))
-        (at_p (λ w. (node_at w.nodes n).rows.snapshot ≡ None) flat_p)
+        (λ s h. at_p (λ w. floor_in (node_at w.nodes s.number).rows.snapshot ≤ log_length (node_at w.nodes n))
+        (subst (λ a. floor_in (node_at p.nodes s.number).rows.snapshot ≤ a) (sym long_p) (seats_low s h)))
       where
         at_p : (P : World B → Type 0) → P p → P (played same members (before ++ leading))
         at_p P h = subst P (sym p_is) h
@@ -397,18 +399,21 @@ module _ {B : Type 0} (same : B → B → Bool) (equal : IsEquality same) (membe
     had s = (now s).rows.votes
 
     helpers_then : (s : Seat B) → Has seats s
-        → Ready same equal members two n member (suc seen) z s.number (put_votes vs (had s)) (node_at q.nodes s.number)
+        → Ready same equal members two n member (suc seen) z s.number s.node.rows.snapshot (put_votes vs (had s)) (node_at q.nodes s.number)
     helpers_then s h =
         let r = one_pass.helpers s h in
         record {
           up = r.up;
           promised = r.promised;
           votes_are = r.votes_are ∙ ap (λ l. put_votes vs l) (helper_is s h).votes_are;
-          plain = r.plain;
-          level = r.level;
+          given_is = r.given_is ∙ still;
+          level = r.level ∙ ap (λ o. floor_in o) still;
           own = r.own;
           rests = r.rests;
         }
+      where
+        still : (node_at p.nodes s.number).rows.snapshot ≡ s.node.rows.snapshot
+        still = (helper_is s h).given_is ∙ bases s h
 
     short_then : (j : ℕ) (v : Vote B) → crew j ≡ true → Has (node_at q.nodes j).rows.votes v → v.slot ≤ log_length y + length vs
     short_then j v t h =
@@ -437,7 +442,7 @@ module _ {B : Type 0} (same : B → B → Bool) (equal : IsEquality same) (membe
         of c (Own i) v g =
             inl
             (has_from first x.rows.votes v
-            (subst (λ l. Has (votes_from first l) v) (sym own_votes) (subst (λ (d : CountedPromise B). Has d.votes v) i g)))
+            (subst (λ l. Has l v) (sym own_votes) (subst (λ (d : CountedPromise B). Has d.votes v) i g)))
         of c (Seated s j i) v g =
             inr (
               s,
@@ -461,14 +466,12 @@ module _ {B : Type 0} (same : B → B → Bool) (equal : IsEquality same) (membe
         rode r =
             record {
               up = r.up;
-              level = r.level;
+              level = r.level ∙ ap (λ o. floor_in o) b.base;
               role_is = r.role ∙ b.role;
               taken = r.taken ∙ b.taken;
               log = r.log ∙ ap (λ l. l ++ entries_of vs) b.log;
-              pending = r.pending ∙ (λ i. pending_behind (stands_p i) (entries_of vs) (node_at p.nodes n).pending)
-                  ∙ (λ i. pending_behind (standings (b.log i)) (entries_of vs) (b.pending i));
-              ends = (λ i. has_end n (sym b.boot i) (standing n (sym b.log i)) (entries_of vs))
-                  ∙ ((λ i. has_end n (node_at p.nodes n).rows.boot (sym stands_p i n) (entries_of vs)) ∙ r.stands);
+              pending = r.pending ∙ (λ i. pending_behind (stands_p i) (entries_of vs) (b.pending i));
+              ends = (λ i. has_end n (sym b.boot i) (sym stands_p i n) (entries_of vs)) ∙ r.stands;
               eights = r.eights;
               heard = λ v h. r.heard (place_of v) n (b.heard v (subst (λ l. Has l v) vs_is h));
             }
@@ -479,8 +482,7 @@ module _ {B : Type 0} (same : B → B → Bool) (equal : IsEquality same) (membe
         fell d h =
             record {
               down_is = d ∙ ap (λ r. down r) (sym rows_are);
-              ends = (λ i. has_end n (sym b.boot i) (standing n (sym b.log i)) (entries_of vs))
-                  ∙ ((λ i. has_end n (node_at p.nodes n).rows.boot (sym stands_p i n) (entries_of vs)) ∙ h);
+              ends = (λ i. has_end n (sym b.boot i) (sym stands_p i n) (entries_of vs)) ∙ h;
             }
 
     abbrev DoneAs : NodeState B → Type 0
@@ -501,13 +503,14 @@ module _ {B : Type 0} (same : B → B → Bool) (equal : IsEquality same) (membe
           helpers = helpers_then;
           next = shape.0;
           role_is = role_at;
-          next_is = at_next role role_at ordered ∙ ap (λ a. suc (a + length vs)) (bare y flat_y);
+          next_is = at_next role role_at ordered;
           bound = (subst (λ r. IsIn ballot first past most r) shape.2 bid.is_in).1;
-          after = subst (λ a. AreAfter a vs) (bare y flat_y) (subst (λ l. AreAfter (log_length y) l) (sym vs_is) after_table);
+          after = subst (λ l. AreAfter (log_length y) l) (sym vs_is) after_table;
           called = called_for first (reports backed.cs);
-          made = backed.made ∙ (λ i. propose_new same (bare y flat_y i) y.pending
-              (propose_all (called_for first (reports backed.cs)) (Leading ballot (suc (first_as i)) [])));
+          made = backed.made ∙ (λ i. propose_new same (log_length y) y.pending
+              (propose_all (called_for first (reports backed.cs)) (Leading ballot (suc (sym long_is i)) [])));
           reported = λ e h. subst (λ l. WasReported (record {
+            snapshot = x.rows.snapshot;
             log = x.applied;
             pending = x.pending;
             boot = x.rows.boot;
@@ -518,9 +521,9 @@ module _ {B : Type 0} (same : B → B → Bool) (equal : IsEquality same) (membe
           crew = crew;
           enough = ltb-true _ _ backed.most;
           in_crew = in_crew;
-          short = λ j v t h. subst (λ a. v.slot ≤ a + length vs) (bare y flat_y) (short_then j v t h);
+          short = short_then;
           boot = ap (λ r. r.boot) rows_are ∙ b.boot;
-          plain = ap (λ r. r.snapshot) rows_are ∙ flat_p;
+          base = ap (λ r. r.snapshot) rows_are ∙ b.base;
           promised = ap (λ r. r.promised) rows_are ∙ b.promised;
           votes = ap (λ r. r.votes) rows_are ∙ (b.cast ∙ (λ i. put_votes (sym vs_is i) (sym votes_y i)));
           mine = λ v h. b.mine v (subst (λ l. Has l v) vs_is h);
@@ -529,9 +532,6 @@ module _ {B : Type 0} (same : B → B → Bool) (equal : IsEquality same) (membe
           fate = fate_is;
         }
       where
-        first_as : log_length x ≡ length y.applied
-        first_as = bare x flat ∙ ap length (sym log_is)
-
         at_next : (r : Role B) → r ≡ Leading ballot shape.0 vs → Ordered (log_length y) r → shape.0 ≡ suc (log_length y + length vs)
         at_next r e o = (subst (λ a. Ordered (log_length y) a) e o).0
 
@@ -552,7 +552,7 @@ module _ {B : Type 0} (same : B → B → Bool) (equal : IsEquality same) (membe
         one_pass.others j d g
         ∙ ((bidding.bid same equal members two n member low u own number seats apart others now are ups rests up rest seen is_seen sees
         rounds cast past
-        most from room slots mays votes_are own_votes flats plains flat own_plain belows own_below level heard eights enough).others j d g
+        most from room slots mays votes_are own_votes bases unders base belows own_below level heard eights enough).others j d g
         ∙ (bidding.started same equal members two n member low u own number seats apart others now are ups rests up rest seen is_seen sees
         rounds cast
         past most).others j d)

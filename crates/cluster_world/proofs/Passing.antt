@@ -1,11 +1,11 @@
 -- Each helper casts the votes that a leader asks for, and the leader learns them or goes down.
 use Rattle.std.proofs.Common.{◌≡◌, ◌⊎◌, inl, inr, ⊎_elim, ℕ, zero, suc, ◌+◌, ◌*◌, ◌<◌, ◌≤◌, Bool, true, false, not, eqb, refl, sym, ap, ◌∙◌}
 use Rattle.std.proofs.Common.{subst, arith}
-use Rattle.std.proofs.Common.{List, [], ◌∷◌, ◌++◌, Some, None}
-use Rattle.std.specs.Prelude.{fold, if◌then◌else◌}
+use Rattle.std.proofs.Common.{List, [], ◌∷◌, ◌++◌, Option, Some, None}
+use Rattle.std.specs.Prelude.{fold, nat_le, if◌then◌else◌}
 use Rattle.std.specs.List.{flat_map, list_any}
 use Rattle.std.proofs.lemmas.List.{append-nil, append_assoc}
-use Rattle.std.proofs.lemmas.Bool.{cond-true, cond-false, ltb-true, lt-ltb, or_cases, eqb-true}
+use Rattle.std.proofs.lemmas.Bool.{cond-true, cond-false, ltb-true, lt-ltb, lt-leb, or_cases, eqb-true}
 use Rattle.cluster_world.proofs.AtOnce.{AtRest, settle_rest, alone_is_few}
 use Rattle.cluster_world.proofs.Casting.{HeardOwn, hears_own, none_closed, counts_own, sent_to, hears_itself, hears_still}
 use Rattle.cluster_world.proofs.EveryWorld.{WorldOk, next_ok, all_stay, play_on}
@@ -21,6 +21,8 @@ use Rattle.paxos_packets.proofs.Order.{irreflexive}
 use Rattle.paxos_packets.specs.Body.{IsEquality}
 use Rattle.paxos_packets.specs.Members.{count_nodes, IsMember, is_majority, is_in}
 use Rattle.paxos_packets.specs.Packet.{packet}
+use Rattle.paxos_packets.specs.Snapshot as taken
+use Rattle.paxos_packets.specs.Snapshot.{floor_in}
 use Rattle.paxos_packets.specs.Vote.{put_vote, put_votes}
 use Rattle.paxos_packets.specs.declared.ballot.Ballot.{Ballot}
 use Rattle.paxos_packets.specs.declared.entry.Entry.{Entry}
@@ -28,7 +30,7 @@ use Rattle.paxos_packets.specs.declared.packet.Kind.TheVariants.{Accept, Accepte
 use Rattle.paxos_packets.specs.declared.packet.Packet.{Packet}
 use Rattle.paxos_packets.specs.declared.vote.Vote.{Vote}
 use Rattle.paxos_acceptor.specs.Acceptor.{may_accept, given_by}
-use Rattle.paxos_learner.specs.Learned.{is_learned}
+use Rattle.paxos_learner.specs.Learned.{is_closed, is_learned}
 use Rattle.paxos_learner.specs.Learner.{LearnerState, hears, count_vote, run_from}
 use Rattle.paxos_learner.specs.Tallies.{place_of, nodes_heard}
 use Rattle.paxos_node.specs.Applying.{down, settle}
@@ -100,36 +102,42 @@ logged_wider {B} members sent later log wider ok = record { at = λ i e h. chose
           voted = λ k m q. let s = c.voted k m q in record { to = s.to; is = wider _ s.is };
         }
 
+-- the snapshot gives no slot above its floor
+given_none : (o : Option taken.Snapshot) (slot : ℕ) → floor_in o < slot → given_by o slot ≡ None
+given_none None slot l = refl
+given_none (Some s) slot l = cond-false (nat_le slot s.floor) (Some s) None (lt-leb slot s.floor l)
+
 module _ {B : Type 0} (same : B → B → Bool) (equal : IsEquality same) (members : ℕ) (many : 2 ≤ members) (n : ℕ)
     (member : IsMember members n)
     (round : ℕ) (y : NodeState B) where
   abbrev pub ballot : Ballot
   ballot = record { round = round; node = n }
 
-  -- a helper that promised the ballot, and has these votes
-  pub record Ready (k : ℕ) (votes : List (Vote B)) (x : NodeState B) : Type 0 where
+  -- a helper that promised the ballot, and has this snapshot and these votes
+  pub record Ready (k : ℕ) (given : Option taken.Snapshot) (votes : List (Vote B)) (x : NodeState B) : Type 0 where
     pub up : x.up ≡ true
     pub promised : x.rows.promised ≡ Some ballot
     pub votes_are : x.rows.votes ≡ votes
-    pub plain : x.rows.snapshot ≡ None
-    pub level : x.learner.floor ≡ 0
+    pub given_is : x.rows.snapshot ≡ given
+    pub level : x.learner.floor ≡ floor_in given
     pub own : HeardOwn ballot k x.learner
     pub rests : AtRest x
 
-  module _ (v : Vote B) (mine : v.ballot ≡ ballot) (least' : 1 ≤ v.slot) where
+  module _ (v : Vote B) (mine : v.ballot ≡ ballot) (open' : floor_in y.rows.snapshot < v.slot) where
     abbrev pub question : ℕ → Packet B
     question k = packet n (Accept v) k
 
     abbrev pub answer : ℕ → Packet B
     answer k = packet k (Accepted v) n
 
-    casts_it : (k : ℕ) (votes : List (Vote B)) (x : NodeState B) → Ready k votes x
+    casts_it : (k : ℕ) (given : Option taken.Snapshot) (votes : List (Vote B)) (x : NodeState B) → floor_in given < v.slot
+        → Ready k given votes x
         → outcome_of same members (Deliver (question k)) x ≡ cast same members k v (record (begun x) { node = saw (Accept v) x })
-    casts_it k votes x ready =
+    casts_it k given votes x above ready =
         ap (λ (z : Plan B). settle k z)
         (cond-true (may_accept x.rows.promised v.ballot) (cast_or_show same members k n (given_by x.rows.snapshot v.slot) v t)
         (refuse k n v.ballot t) may
-        ∙ ap (λ z. cast_or_show same members k n (given_by z v.slot) v t) ready.plain)
+        ∙ ap (λ z. cast_or_show same members k n z v t) (ap (λ z. given_by z v.slot) ready.given_is ∙ given_none given v.slot above))
         ∙ settle_rest k (cast same members k v t) rests
       where
         t : Plan B
@@ -140,26 +148,27 @@ module _ {B : Type 0} (same : B → B → Bool) (equal : IsEquality same) (membe
 
         rests : AtRest (cast same members k v t).node
         rests =
-            (λ i. run_from (suc (log_length x)) (counts_own members many ballot 0 k v x.learner ready.level least' mine
-            (least v.slot) ready.own i).learned) ∙ ready.rests
+            (λ i. run_from (suc (log_length x)) (counts_own members many ballot 0 k v x.learner
+            (subst (λ f. f < v.slot) (sym ready.level) above) mine (least v.slot) ready.own i).learned) ∙ ready.rests
 
-    after_cast : (k : ℕ) (votes : List (Vote B)) (x : NodeState B) → Ready k votes x
-        → Ready k (put_vote v votes) (stepped same members (Deliver (question k)) x)
-    after_cast k votes x ready =
-        subst (λ z. Ready k (put_vote v votes) z)
-        (sym (up_stepped same members (question k) x ready.up ∙ ap (λ (z : Plan B). z.node) (casts_it k votes x ready)))
+    after_cast : (k : ℕ) (given : Option taken.Snapshot) (votes : List (Vote B)) (x : NodeState B) → floor_in given < v.slot
+        → Ready k given votes x → Ready k given (put_vote v votes) (stepped same members (Deliver (question k)) x)
+    after_cast k given votes x above ready =
+        subst (λ z. Ready k given (put_vote v votes) z)
+        (sym (up_stepped same members (question k) x ready.up ∙ ap (λ (z : Plan B). z.node) (casts_it k given votes x above ready)))
         (record {
           up = ready.up;
           promised = ap (λ c. Some c) mine;
           votes_are = ap (put_vote v) ready.votes_are;
-          plain = ready.plain;
+          given_is = ready.given_is;
           level = ap (λ (l : LearnerState B). l.floor) quiet ∙ ready.level;
           own = subst (λ l. HeardOwn ballot k l) (sym quiet) (hears_own ballot 0 k v x.learner ready.own);
           rests = (λ i. run_from (suc (log_length x)) (quiet i).learned) ∙ ready.rests;
         })
       where
         quiet : count_vote members k v x.learner ≡ hears k v x.learner
-        quiet = counts_own members many ballot 0 k v x.learner ready.level least' mine (least v.slot) ready.own
+        quiet =
+            counts_own members many ballot 0 k v x.learner (subst (λ f. f < v.slot) (sym ready.level) above) mine (least v.slot) ready.own
 
     -- what is known of the node as the vote comes back from these helpers, and these votes came back before
     module _ (passed : List (Vote B)) where
@@ -183,13 +192,17 @@ module _ {B : Type 0} (same : B → B → Bool) (equal : IsEquality same) (membe
             ride = ride;
             counted = λ j h. subst (λ (l : LearnerState B). is_in (nodes_heard (place_of v) l.heard) j ≡ true) (sym is) (heard j h);
             learns = λ m. subst (λ (l : LearnerState B). is_learned v.slot l.learned ≡ true) (sym is)
-                (learns_it members k v x.learner (none_closed x.learner.floor v.slot c.ride.level least') (majority_more members (among (n ∷ k ∷ ks))
+                (learns_it members k v x.learner (not_closed x c.ride) (majority_more members (among (n ∷ k ∷ ks))
                 (is_in (nodes_heard (place_of v) (hears k v x.learner).heard))
                 (λ j a. heard_hears j (among_has (n ∷ k ∷ ks) j a)) m));
             done = λ u h. subst (λ (l : LearnerState B). is_learned u.slot l.learned ≡ true) (sym is)
                 (count_keeps members k u.slot v x.learner (c.done u h));
           }
         where
+          not_closed : (z : NodeState B) {fs : List (Entry B)} → Rides same equal members many n y z fs
+              → is_closed z.learner.floor v.slot ≡ false
+          not_closed z r = none_closed z.learner.floor v.slot (subst (λ f. f < v.slot) (sym r.level) open')
+
           heard_hears : (j : ℕ) → Has (n ∷ k ∷ ks) j → is_in (nodes_heard (place_of v) (hears k v x.learner).heard) j ≡ true
           heard_hears j h =
               ⊎_elim (λ e. old j (has_first ks e))
@@ -201,14 +214,15 @@ module _ {B : Type 0} (same : B → B → Bool) (equal : IsEquality same) (membe
 
           heard : (j : ℕ) → Has (n ∷ k ∷ ks) j → is_in (nodes_heard (place_of v) (count_vote members k v x.learner).heard) j ≡ true
           heard j h = subst (λ hs. is_in (nodes_heard (place_of v) hs) j ≡ true)
-              (sym (count_heard members k v x.learner (none_closed x.learner.floor v.slot c.ride.level least'))) (heard_hears j h)
+              (sym (count_heard members k v x.learner (not_closed x c.ride))) (heard_hears j h)
 
-      module _ (votes : ℕ → List (Vote B)) (now : Seat B → NodeState B) where
+      module _ (given : ℕ → Option taken.Snapshot) (votes : ℕ → List (Vote B)) (now : Seat B → NodeState B) where
         -- what is known of a helper before it is asked
         pub record Due (w : World B) (s : Seat B) : Type 0 where
           pub asked : Has w.sent (question s.number)
           pub low_is : s.number < 8
-          pub ready : Ready s.number (votes s.number) (now s)
+          pub above : floor_in (given s.number) < v.slot
+          pub ready : Ready s.number (given s.number) (votes s.number) (now s)
 
         abbrev pub cast_then : Seat B → NodeState B
         cast_then s = stepped same members (Deliver (question s.number)) (now s)
@@ -247,7 +261,7 @@ module _ {B : Type 0} (same : B → B → Bool) (equal : IsEquality same) (membe
             sent =
                 answers same members equal w (question k) (answer k) due.asked (ap (λ (x : NodeState B). x.up) is ∙ due.ready.up)
                 (subst (λ x. Has (outcome_of same members (Deliver (question k)) x).packets (answer k)) (sym is)
-                (subst (λ (o : Plan B). Has o.packets (answer k)) (sym (casts_it k (votes k) (now s) due.ready))
+                (subst (λ (o : Plan B). Has o.packets (answer k)) (sym (casts_it k (given k) (votes k) (now s) due.above due.ready))
                 (sent_to members k n (Accepted v) member (λ e. apart (sym e)))))
 
             back : Moved same members u u' (Deliver (answer k))
@@ -276,7 +290,7 @@ module _ {B : Type 0} (same : B → B → Bool) (equal : IsEquality same) (membe
                           (stepped same members (Deliver (answer k)) (node_at u.nodes n)) l g.0)
                           (sym (back.sends c.ride.up)) g.1),
                     ))
-                    (comes_back same equal members many n y u ok_u k v (has_among same equal (answer k) u.sent sent) least' c.es c.ride)
+                    (comes_back same equal members many n y u ok_u k v (has_among same equal (answer k) u.sent sent) open' c.es c.ride)
 
             fallen : (es : List (Entry B)) × Fell same equal members many n y (node_at w.nodes n) w.sent es → Fates
             fallen f =
@@ -285,7 +299,10 @@ module _ {B : Type 0} (same : B → B → Bool) (equal : IsEquality same) (membe
                   record {
                     down_is = back.mine ∙ (stays ∙ is_down);
                     ends = f.1.ends;
-                    logged = logged_wider members w.sent u'.sent (y.applied ++ f.0) (λ p h. back.stay p (m.stay p h)) f.1.logged;
+                    under = f.1.under;
+                    long = f.1.long;
+                    logged =
+                        logged_wider members w.sent u'.sent (f.1.under ++ (y.applied ++ f.0)) (λ p h. back.stay p (m.stay p h)) f.1.logged;
                   },
                 )
               where
@@ -299,7 +316,13 @@ module _ {B : Type 0} (same : B → B → Bool) (equal : IsEquality same) (membe
                     (ap (λ (x : NodeState B). x.up) is_down)
 
         due_on : (w : World B) (s : Seat B) (es : List (Event B)) → Due w s → Due (play same members es w) s
-        due_on w s es d = record { asked = all_stay same members es w (question s.number) d.asked; low_is = d.low_is; ready = d.ready }
+        due_on w s es d =
+            record {
+              asked = all_stay same members es w (question s.number) d.asked;
+              low_is = d.low_is;
+              above = d.above;
+              ready = d.ready;
+            }
 
         -- all helpers cast it
         pub cast_all : (seats : List (Seat B)) (w : World B) → Apart n seats → ((s : Seat B) → Has seats s → Due w s)
@@ -310,8 +333,9 @@ module _ {B : Type 0} (same : B → B → Bool) (equal : IsEquality same) (membe
             all_visited same members n Knows now cast_then (cast_by n v) cast_turn Due due_on visit seats w [] apart due is knows
 
         -- and have cast it then
-        pub ready_then : (s : Seat B) → Ready s.number (votes s.number) (now s) → Ready s.number (put_vote v (votes s.number)) (cast_then s)
-        ready_then s r = after_cast s.number (votes s.number) (now s) r
+        pub ready_then : (s : Seat B) → floor_in (given s.number) < v.slot → Ready s.number (given s.number) (votes s.number) (now s)
+            → Ready s.number (given s.number) (put_vote v (votes s.number)) (cast_then s)
+        ready_then s above r = after_cast s.number (given s.number) (votes s.number) (now s) above r
 
   -- what is known of the node once these votes came back: it learned them all, or it went down
   pub record Rode (x : NodeState B) (passed : List (Vote B)) : Type 0 where
@@ -323,10 +347,12 @@ module _ {B : Type 0} (same : B → B → Bool) (equal : IsEquality same) (membe
     pub ok : WorldOk members w
     pub fate : Rode (node_at w.nodes n) passed ⊎ ((es : List (Entry B)) × Fell same equal members many n y (node_at w.nodes n) w.sent es)
 
-  pub record Passed (seats : List (Seat B)) (votes : ℕ → List (Vote B)) (vs passed : List (Vote B)) (w u : World B) : Type 0 where
-    pub helpers : (s : Seat B) → Has seats s → Ready s.number (put_votes vs (votes s.number)) (node_at u.nodes s.number)
-    pub knows : KnowsAll u (passed ++ vs)
-    pub others : (j : ℕ) → (j ≡ n → ⊥) → ((s : Seat B) → Has seats s → j ≡ s.number → ⊥) → node_at u.nodes j ≡ node_at w.nodes j
+  pub record Passed (seats : List (Seat B)) (given : ℕ → Option taken.Snapshot) (votes : ℕ → List (Vote B)) (vs passed : List (Vote B))
+      (w u : World B) : Type 0
+    where
+      pub helpers : (s : Seat B) → Has seats s → Ready s.number (given s.number) (put_votes vs (votes s.number)) (node_at u.nodes s.number)
+      pub knows : KnowsAll u (passed ++ vs)
+      pub others : (j : ℕ) → (j ≡ n → ⊥) → ((s : Seat B) → Has seats s → j ≡ s.number → ⊥) → node_at u.nodes j ≡ node_at w.nodes j
 
   -- its own vote alone teaches it nothing
   alone : among (n ∷ []) n ≡ among (n ∷ []) n → is_majority members (among (n ∷ [])) ≡ true → ⊥
@@ -337,9 +363,9 @@ module _ {B : Type 0} (same : B → B → Bool) (equal : IsEquality same) (membe
 
   module _ (seats : List (Seat B)) (apart : Apart n seats) (lows : (s : Seat B) → Has seats s → s.number < 8)
       (enough : is_majority members (among (n ∷ counted_by seats)) ≡ true) where
-    begins : (v : Vote B) (mine : v.ballot ≡ ballot) (least' : 1 ≤ v.slot) (passed : List (Vote B)) (w : World B)
-        → is_in (nodes_heard (place_of v) y.learner.heard) n ≡ true → KnowsAll w passed → Knows v mine least' passed w []
-    begins v mine least' passed w heard k =
+    begins : (v : Vote B) (mine : v.ballot ≡ ballot) (open' : floor_in y.rows.snapshot < v.slot) (passed : List (Vote B)) (w : World B)
+        → is_in (nodes_heard (place_of v) y.learner.heard) n ≡ true → KnowsAll w passed → Knows v mine open' passed w []
+    begins v mine open' passed w heard k =
         record {
           ok = k.ok;
           fate = ⊎_elim
@@ -354,10 +380,10 @@ module _ {B : Type 0} (same : B → B → Bool) (equal : IsEquality same) (membe
               (λ f. inr f) k.fate;
         }
 
-    ends : (v : Vote B) (mine : v.ballot ≡ ballot) (least' : 1 ≤ v.slot) (passed : List (Vote B)) (w : World B)
-        → Knows v mine least' passed w (counted_by seats)
+    ends : (v : Vote B) (mine : v.ballot ≡ ballot) (open' : floor_in y.rows.snapshot < v.slot) (passed : List (Vote B)) (w : World B)
+        → Knows v mine open' passed w (counted_by seats)
         → KnowsAll w (passed ++ v ∷ [])
-    ends v mine least' passed w k =
+    ends v mine open' passed w k =
         record {
           ok = k.ok;
           fate = ⊎_elim
@@ -373,22 +399,25 @@ module _ {B : Type 0} (same : B → B → Bool) (equal : IsEquality same) (membe
         }
 
     -- these votes of the leader are cast by all, and come back
-    pub passes : (vs passed : List (Vote B)) (votes : ℕ → List (Vote B)) (w : World B) → ((v : Vote B) → Has vs v → v.ballot ≡ ballot)
-        → ((v : Vote B) → Has vs v → 1 ≤ v.slot)
+    pub passes : (vs passed : List (Vote B)) (given : ℕ → Option taken.Snapshot) (votes : ℕ → List (Vote B)) (w : World B)
+        → ((v : Vote B) → Has vs v → v.ballot ≡ ballot)
+        → ((v : Vote B) → Has vs v → floor_in y.rows.snapshot < v.slot)
         → ((v : Vote B) → Has vs v → is_in (nodes_heard (place_of v) y.learner.heard) n ≡ true)
         → ((v : Vote B) (s : Seat B) → Has vs v → Has seats s → Has w.sent (packet n (Accept v) s.number))
-        → ((s : Seat B) → Has seats s → Ready s.number (votes s.number) (node_at w.nodes s.number)) → KnowsAll w passed
-        → Passed seats votes vs passed w (play same members (pass n seats vs) w)
-    passes [] passed votes w mine from_one heard asked ready knows =
+        → ((v : Vote B) (s : Seat B) → Has vs v → Has seats s → floor_in (given s.number) < v.slot)
+        → ((s : Seat B) → Has seats s → Ready s.number (given s.number) (votes s.number) (node_at w.nodes s.number)) → KnowsAll w passed
+        → Passed seats given votes vs passed w (play same members (pass n seats vs) w)
+    passes [] passed given votes w mine open' heard asked above ready knows =
         record { helpers = ready; knows = subst (λ l. KnowsAll w l) (sym (append-nil passed)) knows; others = λ j d g. refl }
-    passes (v ∷ vs) passed votes w mine from_one heard asked ready knows =
+    passes (v ∷ vs) passed given votes w mine open' heard asked above ready knows =
         joined
-        (passes vs (passed ++ v ∷ []) (λ k. put_vote v (votes k)) u (λ z h. mine z (there h)) (λ z h. from_one z (there h))
+        (passes vs (passed ++ v ∷ []) given (λ k. put_vote v (votes k)) u (λ z h. mine z (there h)) (λ z h. open' z (there h))
         (λ z h. heard z (there h))
         (λ z s h i. all_stay same members (flat_map (cast_by n v) seats) w (packet n (Accept z) s.number) (asked z s (there h) i))
-        (λ s h. subst (λ x. Ready s.number (put_vote v (votes s.number)) x) (sym (first.helpers s h))
-        (ready_then v (mine v here) (from_one v here) passed votes now s (ready s h)))
-        (ends v (mine v here) (from_one v here) passed u first.own))
+        (λ z s h i. above z s (there h) i)
+        (λ s h. subst (λ x. Ready s.number (given s.number) (put_vote v (votes s.number)) x) (sym (first.helpers s h))
+        (ready_then v (mine v here) (open' v here) passed given votes now s (above v s here h) (ready s h)))
+        (ends v (mine v here) (open' v here) passed u first.own))
       where
         now : Seat B → NodeState B
         now s = node_at w.nodes s.number
@@ -396,18 +425,19 @@ module _ {B : Type 0} (same : B → B → Bool) (equal : IsEquality same) (membe
         u : World B
         u = play same members (flat_map (cast_by n v) seats) w
 
-        first : AllVisited same members n (Knows v (mine v here) (from_one v here) passed) now
-            (cast_then v (mine v here) (from_one v here) passed votes now) (cast_by n v)
-            (cast_turn v (mine v here) (from_one v here) passed votes now) (Due v (mine v here) (from_one v here) passed votes now) seats (counted_by seats) w u
+        first : AllVisited same members n (Knows v (mine v here) (open' v here) passed) now
+            (cast_then v (mine v here) (open' v here) passed given votes now) (cast_by n v)
+            (cast_turn v (mine v here) (open' v here) passed given votes now) (Due v (mine v here) (open' v here) passed given votes now)
+            seats (counted_by seats) w u
         first =
-            cast_all v (mine v here) (from_one v here) passed votes now seats w apart
-            (λ s h. record { asked = asked v s here h; low_is = lows s h; ready = ready s h }) (λ s h. refl)
-            (begins v (mine v here) (from_one v here) passed w (heard v here) knows)
+            cast_all v (mine v here) (open' v here) passed given votes now seats w apart
+            (λ s h. record { asked = asked v s here h; low_is = lows s h; above = above v s here h; ready = ready s h }) (λ s h. refl)
+            (begins v (mine v here) (open' v here) passed w (heard v here) knows)
 
-        joined : Passed seats (λ k. put_vote v (votes k)) vs (passed ++ v ∷ []) u (play same members (pass n seats vs) u)
-            → Passed seats votes (v ∷ vs) passed w (play same members (pass n seats (v ∷ vs)) w)
+        joined : Passed seats given (λ k. put_vote v (votes k)) vs (passed ++ v ∷ []) u (play same members (pass n seats vs) u)
+            → Passed seats given votes (v ∷ vs) passed w (play same members (pass n seats (v ∷ vs)) w)
         joined rest =
-            subst (λ z. Passed seats votes (v ∷ vs) passed w z) (sym (play_on same members (flat_map (cast_by n v) seats)
+            subst (λ z. Passed seats given votes (v ∷ vs) passed w z) (sym (play_on same members (flat_map (cast_by n v) seats)
             (pass n seats vs) w))
             (record {
               helpers = rest.helpers;

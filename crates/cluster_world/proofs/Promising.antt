@@ -1,5 +1,5 @@
 -- The ballot of a rescue that the helpers promise: after their promises the node leads, and proposed what they call for.
-use Rattle.std.proofs.Common.{◌≡◌, ℕ, suc, ◌+◌, ◌<◌, ◌≤◌, Bool, true, sym, ap, ◌∙◌, subst, List, [], ◌∷◌, ◌++◌, length, Option, None, arith}
+use Rattle.std.proofs.Common.{◌≡◌, ℕ, suc, ◌+◌, ◌<◌, ◌≤◌, Bool, true, sym, ap, ◌∙◌, subst, List, [], ◌∷◌, ◌++◌, length, arith}
 use Rattle.std.specs.Prelude.{max, fold}
 use Rattle.std.specs.List.{flat_map}
 use Rattle.std.proofs.lemmas.List.{append-nil}
@@ -12,7 +12,6 @@ use Rattle.cluster_world.specs.Has.{Has, here}
 use Rattle.paxos_packets.specs.Body.{IsEquality}
 use Rattle.paxos_packets.specs.Packet.{packet}
 use Rattle.paxos_packets.specs.Snapshot.{floor_in}
-use Rattle.paxos_packets.specs.Snapshot as taken
 use Rattle.paxos_packets.specs.Vote.{put_votes, votes_from}
 use Rattle.paxos_packets.specs.declared.ballot.Ballot.{Ballot}
 use Rattle.paxos_packets.specs.declared.packet.Kind.{Kind}
@@ -37,7 +36,8 @@ use Rattle.world_rescue.specs.Course.{Seat, floor_of, votes_then, promises}
 
 module _ {B : Type 0} (same : B → B → Bool) (equal : IsEquality same) (members : ℕ) (many : 2 ≤ members) (n : ℕ) (low : n < 8) (round : ℕ)
     (votes : List (Vote B)) (y : NodeState B) (rest : AtRest y) (first past most : ℕ) (from : first ≤ past)
-    (base : ℕ) (is_base : floor_in y.rows.snapshot ≡ base) (base_under : base < first) (room : past + length y.pending ≤ most) (slots : most ≤ slot_end) (cast : List (Vote B)) (now : Seat B → NodeState B) where
+    (base : ℕ) (is_base : floor_in y.rows.snapshot ≡ base) (base_under : base < first) (room : past + length y.pending ≤ most)
+    (slots : most ≤ slot_end) (cast : List (Vote B)) (now : Seat B → NodeState B) where
   abbrev pub ballot : Ballot
   ballot = record { round = round; node = n }
 
@@ -65,9 +65,8 @@ module _ {B : Type 0} (same : B → B → Bool) (equal : IsEquality same) (membe
     pub rests : AtRest (now s)
     pub may : may_promise (now s).rows.promised ballot ≡ true
     pub votes_are : (now s).rows.votes ≡ put_votes cast s.node.rows.votes
-    pub plain : (now s).rows.snapshot ≡ None
-    pub was_plain : s.node.rows.snapshot ≡ None
-    pub one_at_least : 1 ≤ first
+    pub same_base : (now s).rows.snapshot ≡ s.node.rows.snapshot
+    pub under : floor_of s < first
     pub below : AreBelow past (votes_then first cast s)
 
   abbrev Visit : World B → World B → Seat B → Role B → Type 0
@@ -85,7 +84,7 @@ module _ {B : Type 0} (same : B → B → Bool) (equal : IsEquality same) (membe
         cast = ok.cast;
         role = ok.role;
         level = ok.level;
-        from_one = ok.from_one;
+        above = ok.above;
         learned = ok.learned;
         log = ok.log;
         pending = ok.pending;
@@ -118,22 +117,16 @@ module _ {B : Type 0} (same : B → B → Bool) (equal : IsEquality same) (membe
       m : Moved same members w u (Deliver (question s))
       m = reached same members equal w (question s) due.asked
 
-      -- no snapshot, so all its votes from the first slot on
+      -- its floor is below the first slot, so all its votes from there on
       answered : promise_of (now s).rows ballot first ≡ Promise ballot (floor_of s) vs
       answered =
-          λ i. Promise ballot (floor_in (same_snapshot i)) (votes_from (from_first i) (due.votes_are i))
+          λ i. Promise ballot (floor_in (due.same_base i)) (votes_from (from_first i) (due.votes_are i))
         where
-          same_snapshot : (now s).rows.snapshot ≡ s.node.rows.snapshot
-          same_snapshot = due.plain ∙ sym due.was_plain
-
           from_first : max first (suc (floor_in (now s).rows.snapshot)) ≡ first
-          from_first = ap (λ k. max first (suc (floor_in k))) due.plain ∙ least first due.one_at_least
+          from_first = ap (λ k. max first (suc (floor_in k))) due.same_base ∙ least first (floor_of s) due.under
             where
-              least : (a : ℕ) → 1 ≤ a → max a 1 ≡ a
-              least a l = omega arith
-
-      floor_under : floor_of s < first
-      floor_under = subst (λ (k : Option taken.Snapshot). floor_in k < first) (sym due.was_plain) due.one_at_least
+              least : (a f : ℕ) → f < a → max a (suc f) ≡ a
+              least a f l = omega arith
 
       sent : Has u.sent (answer s)
       sent =
@@ -160,9 +153,10 @@ module _ {B : Type 0} (same : B → B → Bool) (equal : IsEquality same) (membe
           × IsIn ballot first past most (promise_turn s r)
       heard =
           hears_promise same members many n low ballot votes y u.sent s.number (floor_of s) base first past most vs r t
-          (seeing (Promise ballot (floor_of s) vs) x w.sent (u.sent ++ []) r (λ p h. subst (λ l. Has l p) (sym (append-nil u.sent)) (m.stay p h))
+          (seeing (Promise ballot (floor_of s) vs) x w.sent (u.sent ++ []) r
+          (λ p h. subst (λ l. Has l p) (sym (append-nil u.sent)) (m.stay p h))
           (subst (λ z. Bids same members many n low ballot votes y z w.sent r) (sym is_x) knows.bids))
-          knows.is_in from due.below floor_under is_base base_under room slots
+          knows.is_in from due.below due.under is_base base_under room slots
 
       o : Plan B
       o = on_promise_as same members n s.number ballot (floor_of s) vs r t
@@ -193,9 +187,8 @@ module _ {B : Type 0} (same : B → B → Bool) (equal : IsEquality same) (membe
         rests = d.rests;
         may = d.may;
         votes_are = d.votes_are;
-        plain = d.plain;
-        was_plain = d.was_plain;
-        one_at_least = d.one_at_least;
+        same_base = d.same_base;
+        under = d.under;
         below = d.below;
       }
 

@@ -1,5 +1,5 @@
 -- What holds of each node of a world that events lead to, as the passes of a rescue ask for it.
-use Rattle.std.proofs.Common.{◌≡◌, ⊎_elim, ℕ, zero, suc, ◌<◌, ◌≤◌, Bool, true, false, refl, sym, subst, arith, List, [], ◌∷◌, length, Option, Some, None}
+use Rattle.std.proofs.Common.{◌≡◌, ⊎_elim, ℕ, zero, suc, ◌<◌, ◌≤◌, Bool, true, false, refl, sym, subst, arith, List, [], ◌∷◌, length, Some}
 use Rattle.std.specs.Prelude.{slice_get}
 use Rattle.std.proofs.lemmas.Bool.{cond_both, cond-true, cases_Bool, cases_eq, cases_lt, or_left, lt-ltb}
 use Rattle.cluster_world.proofs.Agreeing.{log_is_chosen}
@@ -17,7 +17,6 @@ use Rattle.paxos_node.proofs.Seeing.{stays_seen}
 use Rattle.paxos_packets.specs.Ballot.{below}
 use Rattle.paxos_packets.specs.Body.{IsEquality}
 use Rattle.paxos_packets.specs.Members.{IsMember, IsMajority}
-use Rattle.paxos_packets.specs.Snapshot as taken
 use Rattle.paxos_packets.specs.Snapshot.{floor_in}
 use Rattle.paxos_packets.specs.declared.ballot.Ballot.{Ballot}
 use Rattle.paxos_packets.specs.declared.entry.Entry.{Entry}
@@ -107,8 +106,8 @@ module _ {B : Type 0} (same : B → B → Bool) (members : ℕ) (events : List (
     -- a log is no longer than the slots in which a majority voted
     pub log_low : (most : ℕ) (crew : ℕ → Bool) → IsMajority members crew
         → ((k : ℕ) (v : Vote B) → crew k ≡ true → Has (node_at w.nodes k).rows.votes v → v.slot ≤ most)
-        → ((k : ℕ) → crew k ≡ true → (node_at w.nodes k).rows.snapshot ≡ None) → (n : ℕ) → length (log_of w n) ≤ most
-    log_low most crew enough low flat n = ⊎_elim (λ (l : most < length (log_of w n)). absurd (go l)) (λ l. l)
+        → ((k : ℕ) → crew k ≡ true → floor_in (node_at w.nodes k).rows.snapshot ≤ most) → (n : ℕ) → length (log_of w n) ≤ most
+    log_low most crew enough low floors n = ⊎_elim (λ (l : most < length (log_of w n)). absurd (go l)) (λ l. l)
         (cases_lt most (length (log_of w n)))
       where
         some_at : (xs : List (Entry B)) (i : ℕ) → i < length xs → (x : Entry B) × (slice_get xs i ≡ Some x)
@@ -116,8 +115,8 @@ module _ {B : Type 0} (same : B → B → Bool) (members : ℕ) (events : List (
         some_at (x ∷ xs) zero h = (x, refl)
         some_at (x ∷ xs) (suc i) h = some_at xs i (omega arith)
 
-        above : (a : ℕ) → 0 < suc a
-        above a = omega arith
+        above : (a : ℕ) → a ≤ most → a < suc most
+        above a l = omega arith
 
         past : suc most ≤ most → ⊥
         past h = omega arith
@@ -127,5 +126,5 @@ module _ {B : Type 0} (same : B → B → Bool) (members : ℕ) (events : List (
             let e = some_at (log_of w n) most l in
             let k = majorities_hold same equal members many events (suc most) e.0
             (log_is_chosen same equal members many events n most e.0 e.1) crew enough
-            (λ k m t. subst (λ (o : Option taken.Snapshot). floor_in o < suc most) (sym (flat k t)) (above most)) in
+            (λ k m t. above (floor_in (node_at w.nodes k).rows.snapshot) (floors k t)) in
             past (low k.node (record { slot = suc most; ballot = k.ballot; entry = e.0 }) k.within k.has)

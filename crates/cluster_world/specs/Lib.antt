@@ -22,3 +22,4 @@ pub mod Headline
 pub mod Told
 pub mod Rescue
 pub mod Helpers
+pub mod RescueExamples

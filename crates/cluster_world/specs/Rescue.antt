@@ -16,6 +16,7 @@ use Rattle.replica_machine.specs.Effects.{is_effective}
 use Rattle.cluster_world.specs.Has.{Has}
 use Rattle.cluster_world.specs.World.{World, node_at, play, played, log_of}
 use Rattle.world_rescue.specs.Course.{Seat, Crew, course}
+use Rattle.world_rescue.specs.Reaching.{reached}
 use Rattle.world_rescue.specs.Room.{IsUpTo, LeavesRoom}
 use Rattle.world_rescue.specs.declared.fault.CourseFault.{CourseFault}
 use Rattle.world_rescue.specs.declared.fault.CourseFault.TheVariants as crew
@@ -44,7 +45,7 @@ has_majority_up members w = is_majority members (is_up_at w)
 abbrev pub round_held : {B : Type 0} → NodeState B → ℕ
 round_held x = max x.proposer.seen (round_of x.rows.promised)
 
--- a rescue needs rounds and slots after these: 2^48 - 8 and 2^40 - 4,097
+-- a rescue needs rounds and slots after these: 2^48 - 8 and 2^40 - 4,097; up to its floor a node has no slot left either
 unfoldable pub last_rescue_round : ℕ
 last_rescue_round = 281474976710648
 
@@ -55,7 +56,7 @@ abbrev pub is_crowded : {B : Type 0} → NodeState B → Bool
 is_crowded x =
     x.up
     && (nat_lt last_rescue_round (round_held x)
-    || (list_any (λ v. nat_lt last_rescue_slot v.slot) x.rows.votes || nat_lt 0 (floor_in x.rows.snapshot)))
+    || (list_any (λ v. nat_lt last_rescue_slot v.slot) x.rows.votes || nat_lt last_rescue_slot (floor_in x.rows.snapshot)))
 
 abbrev pub any_member : ℕ → (ℕ → Bool) → Bool
 any_member zero test = false
@@ -103,9 +104,10 @@ pub record EndsWithAct {B : Type 0} (w : World B) (n number : ℕ) (body : B) : 
   pub is : log_of w n ≡ before ++ Item n (node_at w.nodes n).rows.boot item number body ∷ []
   pub takes_effect : is_effective before (Item n (node_at w.nodes n).rows.boot item number body) ≡ true
 
--- the events restart the node at most once, and no other, and crash none
+-- the events restart the node at most once, and no other; they crash no other, and the node right before that
 pub record RestartsOnce {B : Type 0} (events : List (Event B)) (n : ℕ) : Type 0 where
-  pub none_crashes : (k : ℕ) → Has events (Crash k) → ⊥
+  pub none_crashes : (k : ℕ) → Has events (Crash k) → k ≡ n
+  pub crashes : (early later : List (Event B)) → events ≡ early ++ Crash n ∷ later → (rest : List (Event B)) × (later ≡ Restart n ∷ rest)
   pub own : (k : ℕ) → Has events (Restart k) → k ≡ n
   pub once : (early later : List (Event B)) → events ≡ early ++ Restart n ∷ later → Has later (Restart n) → ⊥
 
@@ -125,9 +127,11 @@ NoDeadEnd B same =
     MayBeRescued (node_at (played same members events).nodes n) number →
     Rescues same members (played same members events) n number body (course same c (record { transport = number; body = body }))
 
--- the rounds and slots that a crew holds leave room for a course
+-- the rounds and slots that a crew holds once its node is level leave room for a course; before that the node begins a ballot more
 abbrev pub HasRoom : {B : Type 0} → Crew B → Type 0
-HasRoom c = IsUpTo last_rescue_round last_rescue_slot most_pending c × LeavesRoom last_rescue_round last_rescue_slot most_pending
+HasRoom c =
+    IsUpTo (suc last_rescue_round) last_rescue_slot most_pending (reached c)
+    × LeavesRoom (suc last_rescue_round) last_rescue_slot most_pending
 
 -- and so it is where a rescue is not refused
 abbrev pub RescuesHaveRoom : (B : Type 0) → (B → B → Bool) → Type 0

@@ -29,8 +29,8 @@ pub enum RescueFault {
     /// The node is down, or not a member.
     #[error("the node is down")]
     NodeDown,
-    /// A node that is up holds a round above 2^48 - 8, or a vote in a slot above 2^40 - 4,097, or rests on a snapshot.
-    #[error("a round or a slot of a node that is up is too great")]
+    /// A node that is up holds a round above 2^48 - 8, or a vote in a slot or a floor above 2^40 - 4,097.
+    #[error("a round, a slot or a floor of a node that is up is too great")]
     NoRoom,
     /// Memory ran out for the events.
     #[error("no memory for the events")]

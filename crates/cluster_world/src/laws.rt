@@ -12,6 +12,8 @@ ghost use Rattle.cluster_world.specs.Examples.{lost_log, duel_log, crash_packets
 ghost use Rattle.cluster_world.specs.CutExamples.{shown, up_at, item};
 ghost use Rattle.cluster_world.specs.CutExamples.{long_down, raised_next, cut_before_majority, own_boot, own_boot_left, two_floors};
 ghost use Rattle.cluster_world.specs.CutExamples.{two_floors_asked, accept_below, overtaken, lost_above, lost_dropped, at_the_floor};
+ghost use Rattle.cluster_world.specs.RescueExamples.{rescued, saved_act, behind_a_cut, behind_own_boot, learned_above, own_lost_above};
+ghost use Rattle.cluster_world.specs.RescueExamples.{cut_by_another, cut_by_itself, floors_of_two};
 ghost use Rattle.cluster_world.specs.CutLogs.{CutsAreLogs, NodesRestOnLogs, PacketsBringLogs, NodesStandByLogs};
 ghost use Rattle.cluster_world.specs.Owed.{PendingIsOwed, TakenAreCounted, PendingLostsAreLive, PendingIsFew, DownIsRows};
 ghost use Rattle.cluster_world.specs.Proposers.{RoundsWereSent, ProposalsFollow};
@@ -224,4 +226,15 @@ pub fn cut_examples()
     ensures lost_dropped_2 { shown (run 3 lost_dropped) 2 ≡ up_at 3 (Boot 2 1 ∷ []) }
     ensures at_the_floor_2 { shown (run 3 at_the_floor) 2 ≡ up_at 1 (item 1 1 ∷ []) }
     ensures lost_above_3 { (shown (run 3 lost_above) 3).up ≡ false }
+{}
+
+/// Rescues by hand in which nodes rest on snapshots, computed.
+pub fn rescue_examples()
+    ensures behind_a_cut_3 { shown (rescued 3 behind_a_cut 3) 3 ≡ up_at 2 (Boot 3 2 ∷ saved_act 3 2 ∷ []) }
+    ensures behind_own_boot_3 { shown (rescued 3 behind_own_boot 3) 3 ≡ up_at 3 (Boot 3 2 ∷ saved_act 3 2 ∷ []) }
+    ensures learned_above_3 { shown (rescued 3 learned_above 3) 3 ≡ up_at 1 (item 1 1 ∷ Boot 3 2 ∷ saved_act 3 2 ∷ []) }
+    ensures own_lost_above_3 { shown (rescued 3 own_lost_above 3) 3 ≡ up_at 1 (Boot 3 2 ∷ Lost 3 2 ∷ Boot 3 3 ∷ saved_act 3 3 ∷ []) }
+    ensures cut_by_another_3 { shown (rescued 3 cut_by_another 3) 3 ≡ up_at 2 (Lost 3 1 ∷ Boot 3 2 ∷ saved_act 3 2 ∷ []) }
+    ensures cut_by_itself_3 { shown (rescued 3 cut_by_itself 3) 3 ≡ up_at 2 (Lost 3 1 ∷ Boot 3 2 ∷ saved_act 3 2 ∷ []) }
+    ensures floors_of_two_5 { shown (rescued 5 floors_of_two 5) 5 ≡ up_at 3 (Boot 5 1 ∷ saved_act 5 1 ∷ []) }
 {}

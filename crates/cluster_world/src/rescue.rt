@@ -39,13 +39,14 @@ const LAST_SLOT: u64 = (1 << 40) - 4097;
 impl<M: Machine> World<M> {
     /// Returns events that bring the node to apply the act `body` of its transport with this number: once they were run from this world on,
     /// the node's log ends with that act's Item, of the boot in which the node is then, and the Item takes effect. They restart the node at
-    /// most once, where it has to apply a Lost of its present boot, and take no other node down. That holds if the number is not 0, the node
-    /// has taken fewer than 2^48 - 1 acts in its boot, and its boot is below 2^48 - 1; no other premise is made.
+    /// most once: if it has to apply a Lost of its present boot, or to rest on a snapshot in which that boot stands. They take no other node
+    /// down. That holds if the number is not 0, the node has taken fewer than 2^48 - 1 acts in its boot, and its boot is below 2^48 - 1; no
+    /// other premise is made.
     ///
     /// Returns `NoMajority` if no majority is up, `NodeDown` if the node is down or not a member, `NoRoom` if a node that is up holds a round
-    /// above 2^48 - 8 or a vote in a slot above 2^40 - 4,097, or rests on a snapshot, in this order, and `Memory` last, only if memory runs
-    /// out: the events lack no round and no slot then. Looks at what the nodes that are up have beyond this node's log; only if the node has
-    /// to restart the log is in the events.
+    /// above 2^48 - 8, or a vote in a slot or a floor above 2^40 - 4,097, in this order, and `Memory` last, only if memory runs out: the
+    /// events lack no round and no slot then. Looks at what the nodes that are up have beyond this node's log; only if the node has to
+    /// restart the log after its floor is in the events.
     pub fn rescue(
         &self,
         node: u8,
@@ -145,7 +146,7 @@ impl<M: Machine> World<M> {
         count
     }
 
-    // Returns whether a node that is up holds a round or a slot past the limits, or rests on a snapshot.
+    // Returns whether a node that is up holds a round or a slot past the limits.
     fn is_crowded(&self) -> bool
         ensures { result ≡ any_member self.now.members (λ k. is_crowded (node_at self.now.nodes k)) }
     {
@@ -156,7 +157,7 @@ impl<M: Machine> World<M> {
         crowded
     }
 
-    // Returns whether the node is up and holds a round or a slot past the limits, or rests on a snapshot.
+    // Returns whether the node is up and holds a round or a slot past the limits.
     fn is_crowded_at(&self, node: u8) -> bool
         ensures { result ≡ is_crowded (node_at self.now.nodes node) }
     {
@@ -164,7 +165,7 @@ impl<M: Machine> World<M> {
         let Some(held) = self.running(node) else {
             return false;
         };
-        is_late(held) || has_late_vote(held) || rests(held)
+        is_late(held) || has_late_vote(held) || has_late_floor(held)
     }
 
     // The votes that a node has cast ascend.
@@ -253,11 +254,11 @@ fn round_of(promised: Option<Ballot>) -> u64
     }
 }
 
-// Returns whether the node rests on a snapshot.
-fn rests<B>(node: &Node<B>) -> bool
-    ensures { result ≡ nat_lt 0 (floor_in node.now.state.rows.snapshot) }
+// Returns whether the node's floor is past the limit.
+fn has_late_floor<B>(node: &Node<B>) -> bool
+    ensures { result ≡ nat_lt last_rescue_slot (floor_in node.now.state.rows.snapshot) }
 {
-    0 < node.floor().get()
+    LAST_SLOT < node.floor().get()
 }
 
 // Returns whether the node's last vote, and so any of them, is in a slot past the limit.

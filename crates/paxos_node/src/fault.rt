@@ -14,7 +14,7 @@ pub enum NodeFault {
     /// No more entries may be pending, or no number is left for an act.
     #[error("no room for one more pending entry")]
     Full,
-    /// Another entry was learned in a slot.
+    /// Another entry was learned in a slot, or a snapshot's octets begin with no head.
     #[error("another entry was learned in the slot")]
     Disagree,
     /// Memory ran out.

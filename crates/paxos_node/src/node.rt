@@ -1,6 +1,6 @@
 //! The node: how it begins with its rows, and what it shows.
 
-ghost use Rattle.std.specs.Prelude.{◌≡◌, ◌↔◌, ◌<◌, ◌+◌, ◌^◌, vec_len, vec_capacity, true, false, nat_lt, length, Some, IsOk, IfOk, IfErr, IsOkUnless, Err, option_copied, if◌then◌else◌};
+ghost use Rattle.std.specs.Prelude.{◌≡◌, ◌↔◌, ◌<◌, ◌+◌, ◌^◌, suc, vec_len, vec_capacity, true, false, nat_lt, length, Some, IsOk, IfOk, IfErr, IsOkUnless, Err, option_copied, if◌then◌else◌};
 ghost use Rattle.paxos_node.specs.declared.fault.NodeFault.TheVariants.{Memory, Rounds};
 ghost use Rattle.paxos_packets.specs.Snapshot.{floor_in};
 ghost use Rattle.paxos_packets.specs.Vote.{votes_from};
@@ -10,6 +10,7 @@ ghost use Rattle.paxos_planning.specs.Node.{log_length};
 ghost use Rattle.paxos_planning.specs.Parts.{learner_of};
 ghost use Rattle.paxos_node.specs.Applying.{standing_of, started};
 ghost use Rattle.paxos_learner.specs.Learned.{Begins};
+ghost use Rattle.paxos_learner.specs.Learner.{run_from};
 ghost use Rattle.paxos_proposer.specs.Proposer.{round_of, is_leading, own_ballot, is_spent};
 ghost use Rattle.paxos_planning.specs.Drafting.{known, with_pending_entry};
 ghost use Rattle.paxos_planning.specs.Front.{IsFront};
@@ -19,8 +20,10 @@ ghost use Rattle.replica_machine.specs.Roll.{HasStandings};
 use crate::fault::NodeFault;
 use crate::snapshots::roll_at;
 use paxos_acceptor::Acceptor;
-use paxos_learner::Learner;
-use paxos_packets::{Ballot, Body, Change, Entry, Floor, Members, Rows, Snapshot, Vote, Votes};
+use paxos_learner::{Hearing, Learner};
+use paxos_packets::{
+    Ballot, Body, Change, Entries, Entry, Floor, Members, Rows, Snapshot, Vote, Votes,
+};
 use paxos_planning::{Draft, Parts};
 use paxos_proposer::Proposer;
 use replica_machine::Roll;
@@ -371,6 +374,18 @@ impl<B: Body> Node<B> {
     {
         match self.acceptor.votes_from(first) {
             Ok(votes) => Ok(votes),
+            Err(_) => Err(paxos_packets::Memory),
+        }
+    }
+
+    /// Returns copies of the entries that the node has learned in the slots after this one, up to the first slot in which it has learned
+    /// none, or `Memory`. It copies no other entry.
+    pub fn run_after(&self, slot: Floor) -> Result<Entries<B>, paxos_packets::Memory>
+        ensures { IfOk result (λ run. run ≡ run_from (suc slot) self.now.state.learner.learned) }
+    {
+        let hearing = Hearing::of(self.alloc, &self.learner);
+        match hearing.run_after(slot.get()) {
+            Ok(run) => Ok(run),
             Err(_) => Err(paxos_packets::Memory),
         }
     }

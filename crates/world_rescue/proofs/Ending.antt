@@ -1,6 +1,7 @@
 -- A roll goes on over the entries of votes, one by one, up to the loss of the node's boot.
 use Rattle.std.proofs.Common.{◌≡◌, ℕ, Bool, true, false, ◌||◌, ◌+◌, ◌<◌, ◌≤◌, List, ◌∷◌, drop, length, get_or, sym, ap, ◌∙◌}
 use Rattle.std.proofs.lemmas.List.{drop_all}
+use Rattle.paxos_packets.specs.declared.entry.Entry.{Entry}
 use Rattle.paxos_packets.specs.declared.vote.Vote.{Vote}
 use Rattle.paxos_node.specs.Applying.{ends_boot, has_end}
 use Rattle.paxos_node.proofs.Rolling.{rolls_on, roll_ends, rest_is}
@@ -52,3 +53,39 @@ pub rolls_over : {B : Type 0} (node boot : ℕ) (roll : List Standing) (votes : 
 rolls_over {B} node boot roll votes i stands l h =
     roll_ends h.0 (standings_from stands (entries_of votes)) (entries_of (drop i votes)) roll h.1 h.2
     (ap (λ (vs : List (Vote B)). entries_of vs) (drop_all i votes l))
+
+-- the same over entries
+
+-- where the nodes stand now, the rest has the loss if the whole has it
+abbrev pub FallsIn : {B : Type 0} → ℕ → ℕ → List Standing → List (Entry B) → (ℕ → Standing) → List (Entry B) → Type 0
+FallsIn {B} node boot roll rest stands entries =
+    (now : ℕ → Standing) × HasStandings now roll × (has_end node boot (now node) rest ≡ has_end node boot (stands node) entries)
+
+pub goes_in : {B : Type 0} (node boot : ℕ) (old new : List Standing) (entries : List (Entry B)) (i : ℕ) (e : Entry B) (stands : ℕ → Standing)
+    → i < length entries → e ≡ get_or entries i e
+    → ((now : ℕ → Standing) → HasStandings now old → false ≡ ends_boot node boot (now node) e)
+    → ((n : ℕ) → n < 256 → standing_in new n ≡ standing_after n (standing_in old n) e)
+    → FallsIn node boot old (drop i entries) stands entries → FallsIn node boot new (drop (i + 1) entries) stands entries
+goes_in {B} node boot old new entries i e stands l is never step h =
+    let now : ℕ → Standing = h.0 in
+    let more : List (Entry B) = drop (i + 1) entries in (
+      standings_after now e,
+      rolls_on now e old new h.1 step,
+      ap (λ (b : Bool). b || has_end node boot (standing_after node (now node) e) more) (never now h.1)
+          ∙ ap (λ (es : List (Entry B)). has_end node boot (now node) es) (sym (rest_is entries i e l is)) ∙ h.2,
+    )
+
+pub ends_in : {B : Type 0} (node boot : ℕ) (old : List Standing) (entries : List (Entry B)) (i : ℕ) (e : Entry B) (stands : ℕ → Standing)
+    → i < length entries → e ≡ get_or entries i e
+    → ((now : ℕ → Standing) → HasStandings now old → true ≡ ends_boot node boot (now node) e)
+    → FallsIn node boot old (drop i entries) stands entries → true ≡ has_end node boot (stands node) entries
+ends_in {B} node boot old entries i e stands l is does h =
+    let now : ℕ → Standing = h.0 in
+    let more : List (Entry B) = drop (i + 1) entries in
+    ap (λ (b : Bool). b || has_end node boot (standing_after node (now node) e) more) (does now h.1)
+    ∙ ap (λ (es : List (Entry B)). has_end node boot (now node) es) (sym (rest_is entries i e l is)) ∙ h.2
+
+pub ends_not_in : {B : Type 0} (node boot : ℕ) (roll : List Standing) (entries : List (Entry B)) (i : ℕ) (stands : ℕ → Standing) → length entries ≤ i
+    → FallsIn node boot roll (drop i entries) stands entries → false ≡ has_end node boot (stands node) entries
+ends_not_in {B} node boot roll entries i stands l h =
+    ap (λ (es : List (Entry B)). has_end node boot (h.0 node) es) (sym (drop_all i entries l)) ∙ h.2

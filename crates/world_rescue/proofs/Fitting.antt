@@ -2,15 +2,15 @@
 use Rattle.std.proofs.Common.{◌≡◌, ℕ, zero, suc, ◌+◌, ◌-◌, ◌<◌, ◌≤◌, max, Bool, true, false, not, ◌&&◌, refl, sym, ap, ◌∙◌, subst, arith}
 use Rattle.std.proofs.Common.{List, [], ◌∷◌, ◌++◌, length, length-append, Option, Some, None}
 use Rattle.std.specs.Prelude.{All, fold, filter, nat_lt, nat_le, ◌==◌, if◌then◌else◌}
-use Rattle.std.proofs.lemmas.Bool.{cond_both, leb-true, le-leb, lt-ltb}
+use Rattle.std.proofs.lemmas.Bool.{cond_both, leb-true, ltb-true, le-leb, lt-ltb}
 use Rattle.std.proofs.lemmas.List.Elements.{All-nil, All-cons, All-head, All-tail, All-append, All-weaker, All-filter}
 use Rattle.paxos_packets.specs.Ballot.{below, same_ballot}
 use Rattle.paxos_packets.specs.Members.{is_majority}
+use Rattle.paxos_packets.specs.Snapshot.{Snapshot, floor_in}
 use Rattle.paxos_packets.specs.Vote.{put_vote, put_votes}
 use Rattle.paxos_packets.specs.declared.ballot.Ballot.{Ballot}
 use Rattle.paxos_packets.specs.declared.entry.Entry.{Entry}
 use Rattle.paxos_packets.specs.declared.vote.Vote.{Vote}
-use Rattle.paxos_planning.specs.Node.{log_length}
 use Rattle.paxos_proposer.specs.declared.promises.CountedPromise.{CountedPromise}
 use Rattle.paxos_proposer.specs.Promises.{calls, with_promises, and_promise_of, above_floors, lowest}
 use Rattle.paxos_proposer.specs.Proposals.{stands, behind}
@@ -21,8 +21,9 @@ use Rattle.paxos_proposer.specs.Role.{Role, Idle, Preparing, Leading, ProposerSt
 use Rattle.paxos_proposer.specs.State.{State, with_role, after_submit}
 use Rattle.replica_machine.specs.declared.roll.Standing.{Standing}
 use Rattle.replica_machine.specs.Roll.{is_wanted_by}
-use Rattle.world_rescue.specs.Course.{Seat, Crew, Act, floor_of, refused_round, seen_then, votes_then, propose_all, propose_new, proposes, hears, led, first_role}
-use Rattle.world_rescue.specs.Course.{first_votes, ballot_after, seen}
+use Rattle.world_rescue.specs.Course.{Seat, Crew, Act, floor_of, refused_round, votes_then, propose_all, propose_new, proposes, hears, led}
+use Rattle.world_rescue.specs.Course.{seen, source_again, seat_over, own_again, floor_again}
+use Rattle.world_rescue.specs.Reaching.{Source, floor_or, higher_by, higher, highest}
 use Rattle.world_rescue.specs.Room.{has_slots, HoldsUpTo, IsUpTo, LeavesRoom}
 
 -- ---- what came to a slot had the slots before it
@@ -402,6 +403,47 @@ filter_few {A} p (x ∷ xs) =
     none : (a : ℕ) → a ≤ length xs → a ≤ suc (length xs)
     none a l = omega arith
 
+-- ---- the snapshot that is found
+
+-- its floor is none above the greatest one
+pub highest_low : {B : Type 0} (floor slot : ℕ) (seats : List (Seat B)) → floor ≤ slot → All (λ (s : Seat B). floor_of s ≤ slot) seats
+    → floor_or floor (highest floor seats) ≤ slot
+highest_low {B} floor slot seats l h = go None seats l h
+  where
+    go : (found : Option Source) (seats : List (Seat B)) → floor_or floor found ≤ slot → All (λ (s : Seat B). floor_of s ≤ slot) seats
+        → floor_or floor (fold (higher floor) found seats) ≤ slot
+    go found [] l h = l
+    go found (s ∷ seats) l h =
+        go (higher floor found s) seats (one s.node.rows.snapshot (All-head (λ (s : Seat B). floor_of s ≤ slot) s seats h))
+        (All-tail (λ (s : Seat B). floor_of s ≤ slot) s seats h)
+      where
+        one : (o : Option Snapshot) → floor_in o ≤ slot → floor_or floor (higher_by floor found s.number o) ≤ slot
+        one None g = l
+        one (Some t) g =
+            cond_both (nat_lt (floor_or floor found) t.floor) (Some (record { number = s.number; snapshot = t })) found
+            (λ (x : Option Source). floor_or floor x ≤ slot) (λ e. g) (λ e. l)
+
+-- and not below this one
+pub highest_more : {B : Type 0} (floor : ℕ) (seats : List (Seat B)) → floor ≤ floor_or floor (highest floor seats)
+highest_more {B} floor seats = go None seats (itself floor)
+  where
+    itself : (k : ℕ) → k ≤ k
+    itself k = omega arith
+
+    over : (a c e : ℕ) → a ≤ c → c < e → a ≤ e
+    over a c e l m = omega arith
+
+    go : (found : Option Source) (seats : List (Seat B)) → floor ≤ floor_or floor found → floor ≤ floor_or floor (fold (higher floor) found seats)
+    go found [] l = l
+    go found (s ∷ seats) l = go (higher floor found s) seats (one s.node.rows.snapshot)
+      where
+        one : (o : Option Snapshot) → floor ≤ floor_or floor (higher_by floor found s.number o)
+        one None = l
+        one (Some t) =
+            cond_both (nat_lt (floor_or floor found) t.floor) (Some (record { number = s.number; snapshot = t })) found
+            (λ (x : Option Source). floor ≤ floor_or floor x) (λ e. over floor (floor_or floor found) t.floor l (ltb-true (floor_or floor found) t.floor e))
+            (λ e. l)
+
 -- ---- a crew that leaves room
 
 module _ {B : Type 0} (same : B → B → Bool) (c : Crew B) (a : Act B) (round slot most : ℕ) (low : IsUpTo round slot most c)
@@ -471,15 +513,15 @@ module _ {B : Type 0} (same : B → B → Bool) (c : Crew B) (a : Act B) (round 
   top = suc slot + most
 
   -- the first pass, in any ballot
-  first_fits : (b : Ballot) (applied : ℕ) → applied ≡ log_length c.own.node
+  first_fits : (b : Ballot) (applied : ℕ) → applied ≤ slot
       → Fits (suc slot) top (led same c.members applied c.own.node.pending b (suc applied) [] c.own c.helpers)
   first_fits b applied is =
       led_fits same c.members applied (suc slot) top (suc applied) c.own.node.pending b [] c.own c.helpers
-      (up applied (log_length c.own.node) is low.log) (few (length c.own.node.pending) low.pending) (All-nil (λ (v : Vote B). v.slot < suc slot))
+      (up applied is) (few (length c.own.node.pending) low.pending) (All-nil (λ (v : Vote B). v.slot < suc slot))
       (below_up slot c.own.node.rows.votes low.votes) own_low others_low floors_low
     where
-      up : (k l : ℕ) → k ≡ l → l ≤ slot → suc k ≤ suc slot
-      up k l e g = omega arith
+      up : (k : ℕ) → k ≤ slot → suc k ≤ suc slot
+      up k g = omega arith
 
       few : (k : ℕ) → k ≤ most → suc slot + k ≤ suc slot + most
       few k l = omega arith
@@ -490,7 +532,7 @@ module _ {B : Type 0} (same : B → B → Bool) (c : Crew B) (a : Act B) (round 
       go : (end : ℕ) → slot + (most + most + 3) ≤ end → suc slot + most + more ≤ end
       go end h = omega arith
 
-  pub first_slots : (b : Ballot) (applied : ℕ) → applied ≡ log_length c.own.node
+  pub first_slots : (b : Ballot) (applied : ℕ) → applied ≤ slot
       → has_slots (led same c.members applied c.own.node.pending b (suc applied) [] c.own c.helpers) ≡ true
   first_slots b applied is =
       fits_slots (suc slot) top (led same c.members applied c.own.node.pending b (suc applied) [] c.own c.helpers) whole (first_fits b applied is)
@@ -505,15 +547,16 @@ module _ {B : Type 0} (same : B → B → Bool) (c : Crew B) (a : Act B) (round 
           least k = omega arith
 
   -- then what is wanted of what is pending, and the act
-  pub second_slots : (r : Role B) → r ≡ first_role same c a → (stands : ℕ → Standing) (log : ℕ) (e : Entry B)
+  pub second_slots : (b : Ballot) (applied : ℕ) → applied ≤ slot → (r : Role B)
+      → r ≡ led same c.members applied c.own.node.pending b (suc applied) [] c.own c.helpers → (stands : ℕ → Standing) (log : ℕ) (e : Entry B)
       → has_slots (propose_new same log (filter (is_wanted_by stands) c.own.node.pending ++ e ∷ []) r) ≡ true
-  second_slots r is stands log e =
+  second_slots b applied fits r is stands log e =
       subst (λ (q : Role B). has_slots (propose_new same log es q) ≡ true) (sym is)
-      (fits_slots (suc slot) (top + length es) (propose_new same log es (first_role same c a))
+      (fits_slots (suc slot) (top + length es) (propose_new same log es (led same c.members applied c.own.node.pending b (suc applied) [] c.own c.helpers))
       (top_fits (length es) (few (length (filter (is_wanted_by stands) c.own.node.pending)) (length c.own.node.pending) (length es)
       (filter_few (is_wanted_by stands) c.own.node.pending) low.pending (length-append (filter (is_wanted_by stands) c.own.node.pending) (e ∷ []))))
-      (submits_new same log (suc slot) top es (first_role same c a)
-      (first_fits (ballot_after same c a (seen same c a)) (log_length c.own.node) refl)))
+      (submits_new same log (suc slot) top es (led same c.members applied c.own.node.pending b (suc applied) [] c.own c.helpers)
+      (first_fits b applied fits)))
     where
       es : List (Entry B)
       es = filter (is_wanted_by stands) c.own.node.pending ++ e ∷ []
@@ -521,26 +564,18 @@ module _ {B : Type 0} (same : B → B → Bool) (c : Crew B) (a : Act B) (round 
       few : (k p l : ℕ) → k ≤ p → p ≤ most → l ≡ k + 1 → l ≤ most + 2
       few k p l g h i = omega arith
 
-  -- or, after a restart, two entries
-  pub again_slots : (b : Ballot) (cast : List (Vote B)) → cast ≡ first_votes same c a → (d e : Entry B)
-      → has_slots (led same c.members 0 (d ∷ e ∷ []) b 1 cast c.own c.helpers) ≡ true
-  again_slots b cast is d e =
-      fits_slots top (top + 2) (led same c.members 0 (d ∷ e ∷ []) b 1 cast c.own c.helpers) (top_fits 2 (two most))
-      (led_fits same c.members 0 top (top + 2) 1 (d ∷ e ∷ []) b cast c.own c.helpers (one slot most) (itself (top + 2))
-      (subst (λ vs. AreBelow top vs) (sym is)
-      (fits_votes (suc slot) top (log_length c.own.node) (first_role same c a)
-      (first_fits (ballot_after same c a (seen same c a)) (log_length c.own.node) refl)))
-      (below_more (suc slot) top c.own.node.rows.votes (wider slot most) (below_up slot c.own.node.rows.votes low.votes))
-      (further (floor_of c.own) own_low)
-      (All-weaker (λ (s : Seat B). AreBelow (suc slot) s.node.rows.votes) (λ s. AreBelow top s.node.rows.votes)
-      (λ s h. below_more (suc slot) top s.node.rows.votes (wider slot most) h) c.helpers others_low)
-      (All-weaker (λ (s : Seat B). floor_of s < suc slot) (λ s. floor_of s < top) (λ s h. further (floor_of s) h) c.helpers floors_low))
+  -- or, after a restart, two entries, over any snapshot of the crew
+  pub again_slots : (b0 : Ballot) (applied : ℕ) → applied ≤ slot → (r : Role B)
+      → r ≡ led same c.members applied c.own.node.pending b0 (suc applied) [] c.own c.helpers → (b : Ballot) (cast : List (Vote B))
+      → cast ≡ behind applied (proposals_of r) → (d e : Entry B)
+      → has_slots (led same c.members (floor_again c) (d ∷ e ∷ []) b (suc (floor_again c)) cast (own_again c) c.helpers) ≡ true
+  again_slots b0 applied fits r at b cast is d e = go (source_again c) (highest_low (floor_of c.own) slot c.helpers low.floor helpers_low)
     where
-      two : (k : ℕ) → 2 ≤ k + 2
-      two k = omega arith
+      helpers_low : All (λ (s : Seat B). floor_of s ≤ slot) c.helpers
+      helpers_low = All-weaker (λ (s : Seat B). HoldsUpTo round slot s) (λ s. floor_of s ≤ slot) (λ s h. h.floor) c.helpers low.helpers
 
-      one : (k l : ℕ) → 1 ≤ suc k + l
-      one k l = omega arith
+      one : (f : ℕ) → f ≤ slot → suc f ≤ suc slot + most
+      one f l = omega arith
 
       itself : (k : ℕ) → k ≤ k
       itself k = omega arith
@@ -550,3 +585,34 @@ module _ {B : Type 0} (same : B → B → Bool) (c : Crew B) (a : Act B) (round 
 
       further : (k : ℕ) → k < suc slot → k < suc slot + most
       further k l = omega arith
+
+      up_to : (k : ℕ) → k ≤ slot → k < suc slot
+      up_to k l = omega arith
+
+      two : (k : ℕ) → 2 ≤ k + 2
+      two k = omega arith
+
+      cast_low : AreBelow top cast
+      cast_low =
+          subst (λ vs. AreBelow top vs) (sym (is ∙ ap (λ (q : Role B). behind applied (proposals_of q)) at))
+          (fits_votes (suc slot) top applied (led same c.members applied c.own.node.pending b0 (suc applied) [] c.own c.helpers)
+          (first_fits b0 applied fits))
+
+      by_seat : (o : Seat B) → floor_of o ≤ slot → AreBelow top o.node.rows.votes
+          → has_slots (led same c.members (floor_of o) (d ∷ e ∷ []) b (suc (floor_of o)) cast o c.helpers) ≡ true
+      by_seat o f v =
+          fits_slots top (top + 2) (led same c.members (floor_of o) (d ∷ e ∷ []) b (suc (floor_of o)) cast o c.helpers) (top_fits 2 (two most))
+          (led_fits same c.members (floor_of o) top (top + 2) (suc (floor_of o)) (d ∷ e ∷ []) b cast o c.helpers (one (floor_of o) f) (itself (top + 2))
+          cast_low v (further (floor_of o) (up_to (floor_of o) f))
+          (All-weaker (λ (s : Seat B). AreBelow (suc slot) s.node.rows.votes) (λ s. AreBelow top s.node.rows.votes)
+          (λ s h. below_more (suc slot) top s.node.rows.votes (wider slot most) h) c.helpers others_low)
+          (All-weaker (λ (s : Seat B). floor_of s < suc slot) (λ s. floor_of s < top) (λ s h. further (floor_of s) h) c.helpers floors_low))
+
+      own_votes : AreBelow top c.own.node.rows.votes
+      own_votes = below_more (suc slot) top c.own.node.rows.votes (wider slot most) (below_up slot c.own.node.rows.votes low.votes)
+
+      go : (o : Option Source) → floor_or (floor_of c.own) o ≤ slot
+          → has_slots (led same c.members (floor_of (seat_over o c.own)) (d ∷ e ∷ []) b (suc (floor_of (seat_over o c.own))) cast (seat_over o c.own) c.helpers)
+          ≡ true
+      go None f = by_seat c.own f own_votes
+      go (Some t) f = by_seat (seat_over (Some t) c.own) f own_votes

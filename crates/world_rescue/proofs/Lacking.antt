@@ -1,6 +1,6 @@
 -- Where what a caller proposes to its end had rounds and slots, so had what it calls: the premise of a caller's clause gives that of the call's.
 use Rattle.std.proofs.Common.{◌≡◌, inl, inr, ℕ, suc, ◌+◌, ◌<◌, max, Bool, true, false, sym, ap, ◌∙◌, subst, arith}
-use Rattle.std.proofs.Common.{List, [], ◌∷◌, drop, length, get_or, Option, Some, None, Result, Ok, Err}
+use Rattle.std.proofs.Common.{List, [], ◌∷◌, drop, length, get_or, Option, Some, Result}
 use Rattle.std.specs.Prelude.{IsErrAnd, IsOkUnless, fold, map, if◌then◌else◌}
 use Rattle.std.proofs.lemmas.Bool.{cases_Bool}
 use Rattle.std.proofs.lemmas.Result.{err_from_is_err_and}
@@ -9,12 +9,13 @@ use Rattle.paxos_packets.specs.declared.entry.Entry.{Entry}
 use Rattle.paxos_packets.specs.declared.vote.Vote.{Vote}
 use Rattle.paxos_proposer.specs.Promises.{called_by}
 use Rattle.paxos_proposer.specs.Proposals.{stands}
-use Rattle.paxos_proposer.specs.Proposer.{own_ballot, is_leading, slots_spent, asking, submitted}
+use Rattle.paxos_proposer.specs.Proposer.{own_ballot, is_leading, slots_spent, submitted}
 use Rattle.paxos_proposer.specs.Role.{Role}
 use Rattle.paxos_proposer.specs.State.{State, begun, saw, started, after_promise, with_role}
 use Rattle.world_rescue.proofs.Fitting.{none_left, new_back, hears_now}
 use Rattle.world_rescue.proofs.Listing.{rest}
-use Rattle.world_rescue.specs.Course.{Seat, floor_of, votes_then, propose_all, propose_new, proposes, hears, led}
+use Rattle.world_rescue.specs.Course.{Seat, floor_of, votes_then, propose_all, propose_new, proposes, hears}
+use Rattle.world_rescue.specs.Parts.{led_by}
 use Rattle.world_rescue.specs.Room.{has_slots}
 use Rattle.world_rescue.specs.declared.fault.CourseFault.{CourseFault}
 use Rattle.world_rescue.specs.declared.fault.CourseFault.TheVariants as fault
@@ -76,26 +77,25 @@ module _ {B : Type 0} where
         hears_now same applied pending b votes own members0 members (map seat xs) (map seat (drop index xs)) (map seat (drop (index + 1) xs)) (seat x) r0 r
         s0 s so_far (ap (λ (ys : List X). map seat ys) (rest xs index x l is)) h
 
-    pub led_then : (applied : ℕ) (pending : List (Entry B)) (b : Ballot) (first : ℕ) (cast : List (Vote B)) (own : Seat B) (helpers : List (Seat B))
-        (floor again : ℕ) (votes : List (Vote B)) (old new : State B) → old.me ≡ own.number → b ≡ own_ballot old.me old.proposer
-        → floor ≡ floor_of own → again ≡ floor_of own → votes ≡ votes_then first cast own → new ≡ started first floor votes old
-        → has_slots (led same old.members applied pending (own_ballot own.number old.proposer) first cast own helpers) ≡ true
-        → has_slots (fold (λ r s. hears same new.members applied pending b s.number (floor_of s) (votes_then first cast s) again r)
+    pub led_then : (applied : ℕ) (pending : List (Entry B)) (b : Ballot) (first : ℕ) (cast : List (Vote B)) (n floor : ℕ) (votes told : List (Vote B))
+        (helpers : List (Seat B)) (old new : State B) → old.me ≡ n → b ≡ own_ballot old.me old.proposer → votes ≡ told
+        → new ≡ started first floor votes old
+        → has_slots (led_by same old.members applied pending (own_ballot n old.proposer) first cast n floor told helpers) ≡ true
+        → has_slots (fold (λ r s. hears same new.members applied pending b s.number (floor_of s) (votes_then first cast s) floor r)
         new.proposer.role helpers) ≡ true
-    led_then applied pending b first cast own helpers floor again votes old new me is low same_floor told at h =
-        (λ i. has_slots (fold (λ r s. hears same (at i).members applied pending (is i) s.number (floor_of s) (votes_then first cast s) (same_floor i) r)
+    led_then applied pending b first cast n floor votes told helpers old new me is same_votes at h =
+        (λ i. has_slots (fold (λ r s. hears same (at i).members applied pending (is i) s.number (floor_of s) (votes_then first cast s) floor r)
         (at i).proposer.role helpers))
-        ∙ ((λ i. has_slots (fold
-        (λ r s. hears same old.members applied pending (own_ballot (me i) old.proposer) s.number (floor_of s) (votes_then first cast s) (floor_of own) r)
-        (asking (me i) (own_ballot (me i) old.proposer) first (low i) (told i)) helpers))
+        ∙ ((λ i. has_slots (led_by same old.members applied pending (own_ballot (me i) old.proposer) first cast (me i) floor (same_votes i) helpers))
         ∙ h)
 
     -- what the node leads by, as its caller knows it
-    pub led_same : (members m : ℕ) (applied : ℕ) (pending ps : List (Entry B)) (b c : Ballot) (first f : ℕ) (cast vs : List (Vote B)) (own o : Seat B)
-        (helpers hs : List (Seat B)) → members ≡ m → pending ≡ ps → b ≡ c → first ≡ f → cast ≡ vs → own ≡ o → helpers ≡ hs
-        → has_slots (led same m applied ps c f vs o hs) ≡ true → has_slots (led same members applied pending b first cast own helpers) ≡ true
-    led_same members m applied pending ps b c first f cast vs own o helpers hs p q r s t u v h =
-        (λ i. has_slots (led same (p i) applied (q i) (r i) (s i) (t i) (u i) (v i))) ∙ h
+    pub led_same : (members m applied log : ℕ) (pending ps : List (Entry B)) (b c : Ballot) (first f : ℕ) (cast vs : List (Vote B)) (n k floor o : ℕ)
+        (votes us : List (Vote B)) (helpers hs : List (Seat B)) → members ≡ m → applied ≡ log → pending ≡ ps → b ≡ c → first ≡ f → cast ≡ vs → n ≡ k
+        → floor ≡ o → votes ≡ us → helpers ≡ hs
+        → led_by same members applied pending b first cast n floor votes helpers ≡ led_by same m log ps c f vs k o us hs
+    led_same members m applied log pending ps b c first f cast vs n k floor o votes us helpers hs p q r s t u v w x y =
+        λ i. led_by same (p i) (q i) (r i) (s i) (t i) (u i) (v i) (w i) (x i) (y i)
 
 -- a round that was seen
 pub saw_below : {B : Type 0} (n members round low end : ℕ) (s : State B) → s ≡ saw round (begun n members) → round ≡ low → suc low < end
@@ -104,4 +104,13 @@ saw_below {B} n members round low end s is same l =
     subst (λ (t : State B). suc t.proposer.seen < end) (sym is) (go round low same l)
   where
     go : (r k : ℕ) → r ≡ k → suc k < end → suc (max 0 r) < end
+    go r k e g = omega arith
+
+-- and the ballot in which the node led then
+pub saw_again : {B : Type 0} (n members round low end : ℕ) (s : State B) → s ≡ saw round (begun n members) → round ≡ low → suc (suc low) < end
+    → suc (own_ballot n s.proposer).round < end
+saw_again {B} n members round low end s is same l =
+    subst (λ (t : State B). suc (suc t.proposer.seen) < end) (sym is) (go round low same l)
+  where
+    go : (r k : ℕ) → r ≡ k → suc (suc k) < end → suc (suc (max 0 r)) < end
     go r k e g = omega arith

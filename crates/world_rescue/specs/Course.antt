@@ -2,13 +2,10 @@
 use Rattle.std.specs.Prelude.{ℕ, suc, max, Bool, Option, Some, None, List, [], ◌∷◌, ◌++◌, map, filter, fold, length, ◌+◌, if◌then◌else◌}
 use Rattle.std.specs.List.{flat_map}
 use Rattle.paxos_packets.specs.Ballot.{below}
-use Rattle.paxos_packets.specs.Packet.{packet}
-use Rattle.paxos_packets.specs.Snapshot.{floor_in}
 use Rattle.paxos_packets.specs.Vote.{put_votes, votes_from}
 use Rattle.paxos_packets.specs.declared.ballot.Ballot.{Ballot}
 use Rattle.paxos_packets.specs.declared.entry.Entry.{Entry}
 use Rattle.paxos_packets.specs.declared.entry.Entry.TheVariants.{Boot, Item}
-use Rattle.paxos_packets.specs.declared.packet.Kind.{Kind}
 use Rattle.paxos_packets.specs.declared.packet.Kind.TheVariants.{Prepare, Promise, Accept, Accepted, Nack}
 use Rattle.paxos_packets.specs.declared.vote.Vote.{Vote}
 use Rattle.paxos_proposer.specs.Promises.{promised, called_by}
@@ -16,34 +13,14 @@ use Rattle.paxos_proposer.specs.Proposals.{stands, behind}
 use Rattle.paxos_proposer.specs.Proposer.{own_ballot, asking, submitted}
 use Rattle.paxos_proposer.specs.Proposing.{proposals_of}
 use Rattle.paxos_proposer.specs.Role.{Role}
-use Rattle.paxos_planning.specs.Node.{NodeState, log_length}
+use Rattle.paxos_planning.specs.Node.{log_length}
 use Rattle.paxos_node.specs.Applying.{standing_of, has_end}
-use Rattle.paxos_node.specs.Held.{Held}
 use Rattle.paxos_node.specs.declared.event.Event.{Event}
-use Rattle.paxos_node.specs.declared.event.Event.TheVariants.{Take, Start, Deliver, Restart}
+use Rattle.paxos_node.specs.declared.event.Event.TheVariants.{Take, Start, Restart}
 use Rattle.replica_machine.specs.declared.roll.Standing.{Standing}
 use Rattle.replica_machine.specs.Roll.{standings_from, is_wanted_by}
-
--- a node that takes part, as it is before the rescue
-pub record Seat (B : Type 0) : Type 0 where
-  pub number : ℕ
-  pub node : NodeState B
-
-abbrev pub seat_of : {B : Type 0} → Held B → Seat B
-seat_of h = record { number = h.me; node = h.state }
-
--- the nodes that take part: the one that is rescued, and others that make a majority with it
-pub record Crew (B : Type 0) : Type 0 where
-  pub members : ℕ
-  pub own : Seat B
-  pub helpers : List (Seat B)
-
-abbrev pub delivered : {B : Type 0} → ℕ → Kind B → ℕ → Event B
-delivered from kind to = Deliver (packet from kind to)
-
--- its floor, up to which its snapshot gives the log
-abbrev pub floor_of : {B : Type 0} → Seat B → ℕ
-floor_of s = floor_in s.node.rows.snapshot
+pub use Rattle.world_rescue.specs.Seats.{Seat, seat_of, Crew, floor_of, delivered}
+use Rattle.world_rescue.specs.Reaching.{Source, highest, fetch, reach, reached}
 
 -- ---- the node sees the rounds that the helpers promised: each is asked for a promise, and what refuses it comes back
 
@@ -129,7 +106,31 @@ take n act = Take n act.transport act.body
 abbrev pub item_of : {B : Type 0} → ℕ → ℕ → ℕ → Act B → Entry B
 item_of n boot taken act = Item n boot (suc taken) act.transport act.body
 
--- ---- the whole
+-- ---- the node began its next boot, so its log is that of its snapshot: it asks for a helper's snapshot that gives more
+
+abbrev pub source_again : {B : Type 0} → Crew B → Option Source
+source_again c = highest (floor_of c.own) c.helpers
+
+abbrev pub fetch_by : {B : Type 0} → ℕ → ℕ → Option Source → List (Event B)
+fetch_by n first None = []
+fetch_by n first (Some t) = fetch n first t
+
+abbrev pub fetch_again : {B : Type 0} → Crew B → List (Event B)
+fetch_again c = fetch_by c.own.number (suc (floor_of c.own)) (source_again c)
+
+-- the node as it rests on that; its votes up to the floor do not count then
+abbrev pub seat_over : {B : Type 0} → Option Source → Seat B → Seat B
+seat_over None s = s
+seat_over (Some t) s =
+    record { number = s.number; node = record s.node { rows = record s.node.rows { snapshot = Some t.snapshot } } }
+
+abbrev pub own_again : {B : Type 0} → Crew B → Seat B
+own_again c = seat_over (source_again c) c.own
+
+abbrev pub floor_again : {B : Type 0} → Crew B → ℕ
+floor_again c = floor_of (own_again c)
+
+-- ---- the whole, of a crew whose node is level: no helper's floor is above its log
 
 module _ {B : Type 0} (same : B → B → Bool) (c : Crew B) (act : Act B) where
   -- the length of its log, and the ballots: the one that need not be promised, and the one in which it leads
@@ -182,7 +183,8 @@ module _ {B : Type 0} (same : B → B → Bool) (c : Crew B) (act : Act B) where
   abbrev pub goes_on : List (Event B)
   goes_on = take c.own.number act ∷ pass c.own.number c.helpers second_votes
 
-  -- the node went down: it begins its next boot, takes the act, leads, and learns the log anew
+  -- the node went down: it begins its next boot; if a helper's floor is above its own, it rests on that one's snapshot; it takes the act,
+  -- leads, and learns the log anew from its floor on
   abbrev pub next_boot : ℕ
   next_boot = suc c.own.node.rows.boot
 
@@ -190,15 +192,21 @@ module _ {B : Type 0} (same : B → B → Bool) (c : Crew B) (act : Act B) where
   pending_again = Boot c.own.number next_boot ∷ item_of c.own.number next_boot 0 act ∷ []
 
   abbrev pub again_role : Role B
-  again_role = led same c.members 0 pending_again (ballot_after (suc seen)) 1 first_votes c.own c.helpers
+  again_role =
+      led same c.members (floor_again c) pending_again (ballot_after (suc seen)) (suc (floor_again c)) first_votes (own_again c) c.helpers
 
   abbrev pub again_votes : List (Vote B)
-  again_votes = behind 0 (proposals_of again_role)
+  again_votes = behind (floor_again c) (proposals_of again_role)
 
   abbrev pub comes_back : List (Event B)
   comes_back =
-      Restart c.own.number ∷ take c.own.number act ∷ lead (ballot_after (suc seen)) 1 first_votes c.helpers
-      ++ pass c.own.number c.helpers again_votes
+      Restart c.own.number ∷ fetch_again c ++ take c.own.number act
+      ∷ lead (ballot_after (suc seen)) (suc (floor_again c)) first_votes c.helpers ++ pass c.own.number c.helpers again_votes
 
-  abbrev pub course : List (Event B)
-  course = first_pass ++ (if falls then comes_back else goes_on)
+  -- the course of a crew whose node is level
+  abbrev pub level_course : List (Event B)
+  level_course = first_pass ++ (if falls then comes_back else goes_on)
+
+-- the node is made level first
+abbrev pub course : {B : Type 0} → (B → B → Bool) → Crew B → Act B → List (Event B)
+course same c act = reach c ++ level_course same (reached c) act

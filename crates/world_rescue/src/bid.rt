@@ -5,7 +5,8 @@ ghost use Rattle.std.specs.List.{flat_map};
 ghost use Rattle.paxos_proposer.specs.Proposer.{own_ballot, round_end, submitted};
 ghost use Rattle.paxos_proposer.specs.State.{role_in, with_role, after_submit};
 ghost use Rattle.world_rescue.specs.Course.{seat_of, floor_of, propose_all, propose_new, proposes, hears};
-ghost use Rattle.world_rescue.specs.Course.{votes_then, promises, lead, led};
+ghost use Rattle.world_rescue.specs.Course.{votes_then, promises, lead};
+ghost use Rattle.world_rescue.specs.Parts.{led_by};
 ghost use Rattle.world_rescue.specs.Room.{has_slots};
 ghost use Rattle.world_rescue.specs.declared.fault.CourseFault.TheVariants as fault;
 
@@ -16,12 +17,13 @@ use paxos_packets::{Ballot, Body, Entries, Entry, Floor, Vote};
 use paxos_proposer::Proposer;
 use std::alloc::Global;
 
-// What a node bids with: how many entries it has applied, from which slot on it asks for votes, which votes it and the helpers have cast
+// What a node bids with: the length of its log, from which slot on it asks for votes, its floor, which votes it and the helpers have cast
 // meanwhile, and what it proposes beside what the promises call for.
 #[derive(Drop)]
 pub(crate) struct Bid<'b, B> {
     pub(crate) applied: u64,
     pub(crate) first: u64,
+    pub(crate) floor: Floor,
     pub(crate) cast: &'b [Vote<B>],
     pub(crate) pending: &'b [Entry<B>],
 }
@@ -110,7 +112,7 @@ fn proposes<B: Body>(
     propose_new(alloc, proposer, applied, pending)
 }
 
-// Has the helper promise the ballot, and hears its promise, at a node with this floor of its own.
+// Has the helper promise the ballot, and hears its promise.
 fn hear<B: Body>(
     alloc: Global,
     events: &mut Vec<Event<B>>,
@@ -118,24 +120,25 @@ fn hear<B: Body>(
     helper: &Node<B>,
     ballot: Ballot,
     bid: &Bid<'_, B>,
-    own: Floor,
 ) -> Result<(), CourseFault>
     ensures events { OnOk result (events.new.items
         ≡ events.old.items ++ promises ballot bid.now.first bid.now.cast.now (seat_of helper.now)) }
     ensures state { OnOk result (proposer.new.state ≡ with_role (hears B.same proposer.old.state.members bid.now.applied bid.now.pending.now ballot
-        helper.now.me (floor_of (seat_of helper.now)) (votes_then bid.now.first bid.now.cast.now (seat_of helper.now)) own (role_in proposer.old))
-        proposer.old.state) }
+        helper.now.me (floor_of (seat_of helper.now)) (votes_then bid.now.first bid.now.cast.now (seat_of helper.now)) bid.now.floor
+        (role_in proposer.old)) proposer.old.state) }
     ensures room { has_slots (hears B.same proposer.old.state.members bid.now.applied bid.now.pending.now ballot helper.now.me
-        (floor_of (seat_of helper.now)) (votes_then bid.now.first bid.now.cast.now (seat_of helper.now)) own (role_in proposer.old)) ≡ true → IsOkUnless result fault.Memory }
+        (floor_of (seat_of helper.now)) (votes_then bid.now.first bid.now.cast.now (seat_of helper.now)) bid.now.floor (role_in proposer.old)) ≡ true →
+        IsOkUnless result fault.Memory }
 {
     let votes = promise(alloc, events, helper, ballot, bid.first, bid.cast)?;
-    let Ok(called) = proposer.on_promise(helper.me(), ballot, helper.floor(), votes, own) else {
+    let Ok(called) = proposer.on_promise(helper.me(), ballot, helper.floor(), votes, bid.floor)
+    else {
         return Err(CourseFault::Memory);
     };
     proposes(alloc, proposer, bid.applied, bid.pending, called)
 }
 
-// Has each helper promise the ballot, and hears the promises, at a node with this floor of its own.
+// Has each helper promise the ballot, and hears the promises.
 fn hear_all<B: Body>(
     alloc: Global,
     events: &mut Vec<Event<B>>,
@@ -143,19 +146,18 @@ fn hear_all<B: Body>(
     helpers: &[&Node<B>],
     ballot: Ballot,
     bid: &Bid<'_, B>,
-    own: Floor,
 ) -> Result<(), CourseFault>
     ensures events { OnOk result (events.new.items ≡ events.old.items
         ++ flat_map (promises ballot bid.now.first bid.now.cast.now) (map (λ h. seat_of h.now) helpers.now)) }
     ensures state { OnOk result (proposer.new.state ≡ with_role (fold (λ r s. hears B.same proposer.old.state.members bid.now.applied
-        bid.now.pending.now ballot s.number (floor_of s) (votes_then bid.now.first bid.now.cast.now s) own r) (role_in proposer.old)
+        bid.now.pending.now ballot s.number (floor_of s) (votes_then bid.now.first bid.now.cast.now s) bid.now.floor r) (role_in proposer.old)
         (map (λ h. seat_of h.now) helpers.now)) proposer.old.state) }
     ensures room { has_slots (fold (λ r s. hears B.same proposer.old.state.members bid.now.applied bid.now.pending.now ballot s.number
-        (floor_of s) (votes_then bid.now.first bid.now.cast.now s) own r) (role_in proposer.old) (map (λ h. seat_of h.now) helpers.now)) ≡ true →
+        (floor_of s) (votes_then bid.now.first bid.now.cast.now s) bid.now.floor r) (role_in proposer.old) (map (λ h. seat_of h.now) helpers.now)) ≡ true →
         IsOkUnless result fault.Memory }
 {
     for helper in helpers {
-        hear(alloc, events, proposer, helper, ballot, bid, own)?;
+        hear(alloc, events, proposer, helper, ballot, bid)?;
     }
     Ok(())
 }
@@ -173,22 +175,24 @@ pub(crate) fn lead<B: Body>(
     requires me { proposer.old.state.me ≡ own.now.me }
     ensures events { OnOk result (events.new.items ≡ events.old.items ++ lead (own_ballot own.now.me proposer.old.state.proposer) bid.now.first
         bid.now.cast.now (map (λ h. seat_of h.now) helpers.now)) }
-    ensures role { OnOk result (role_in proposer.new ≡ led B.same proposer.old.state.members bid.now.applied bid.now.pending.now
-        (own_ballot own.now.me proposer.old.state.proposer) bid.now.first bid.now.cast.now (seat_of own.now) (map (λ h. seat_of h.now) helpers.now)) }
+    ensures role { OnOk result (role_in proposer.new ≡ led_by B.same proposer.old.state.members bid.now.applied bid.now.pending.now
+        (own_ballot own.now.me proposer.old.state.proposer) bid.now.first bid.now.cast.now own.now.me bid.now.floor
+        (votes_then bid.now.first bid.now.cast.now (seat_of own.now)) (map (λ h. seat_of h.now) helpers.now)) }
     ensures me { OnOk result (proposer.new.state.me ≡ proposer.old.state.me) }
     ensures ballot { IfOk result (λ ballot. ballot ≡ own_ballot own.now.me proposer.old.state.proposer) }
     ensures room { suc proposer.old.state.proposer.seen < round_end →
-        has_slots (led B.same proposer.old.state.members bid.now.applied bid.now.pending.now (own_ballot own.now.me proposer.old.state.proposer)
-        bid.now.first bid.now.cast.now (seat_of own.now) (map (λ h. seat_of h.now) helpers.now)) ≡ true → IsOkUnless result fault.Memory }
+        has_slots (led_by B.same proposer.old.state.members bid.now.applied bid.now.pending.now (own_ballot own.now.me proposer.old.state.proposer)
+        bid.now.first bid.now.cast.now own.now.me bid.now.floor (votes_then bid.now.first bid.now.cast.now (seat_of own.now))
+        (map (λ h. seat_of h.now) helpers.now)) ≡ true → IsOkUnless result fault.Memory }
 {
     let Ok(_) = proposer.next_ballot() else {
         return Err(CourseFault::NoRoom);
     };
     happen(events, Event::Start { node: own.me() })?;
     let votes = votes_then(alloc, own, bid.first, bid.cast)?;
-    let Ok(ballot) = proposer.start(bid.first, own.floor(), votes) else {
+    let Ok(ballot) = proposer.start(bid.first, bid.floor, votes) else {
         return Err(CourseFault::Memory);
     };
-    hear_all(alloc, events, proposer, helpers, ballot, bid, own.floor())?;
+    hear_all(alloc, events, proposer, helpers, ballot, bid)?;
     Ok(ballot)
 }

@@ -1,11 +1,13 @@
 //! The crew of a rescue, and the course of events by which its node applies an act.
 
-ghost use Rattle.std.specs.Prelude.{◌≡◌, ◌<◌, ◌^◌, ℕ, suc, true, ◌++◌, ◌∷◌, [], filter, map, IfOk, OnOk, IsOkUnless};
+ghost use Rattle.std.specs.Prelude.{◌≡◌, ◌<◌, ◌≤◌, ◌^◌, ℕ, suc, option_copied, true, ◌++◌, ◌∷◌, [], filter, map, IfOk, OnOk, IsOkUnless};
 ghost use Rattle.paxos_node.specs.Events.{last_number};
 ghost use Rattle.paxos_packets.specs.Rows.{last_boot};
+ghost use Rattle.paxos_packets.specs.Snapshot.{floor_in};
 ghost use Rattle.paxos_packets.specs.declared.ballot.Ballot as ballots;
 ghost use Rattle.paxos_packets.specs.declared.entry.Entry as entries;
 ghost use Rattle.paxos_packets.specs.declared.entry.Entry.TheVariants.{Item};
+ghost use Rattle.paxos_planning.specs.Node.{NodeState};
 ghost use Rattle.paxos_proposer.specs.Proposals.{behind};
 ghost use Rattle.paxos_proposer.specs.Proposer.{own_ballot, round_end};
 ghost use Rattle.paxos_proposer.specs.Proposing.{proposals_of};
@@ -13,17 +15,20 @@ ghost use Rattle.paxos_proposer.specs.State.{begun, saw, role_in};
 ghost use Rattle.replica_machine.specs.declared.roll.Standing.{Standing};
 ghost use Rattle.replica_machine.specs.Roll.{HasStandings, is_wanted_by};
 ghost use Rattle.world_rescue.specs.Course.{act, seat_of, look, seen_then, lead, led, pass, propose_new, take, course};
-ghost use Rattle.world_rescue.specs.Parts.{crew_of, goes_on_from, comes_back_from};
+ghost use Rattle.world_rescue.specs.Course.{level_course, fetch_again, own_again, floor_again};
+ghost use Rattle.world_rescue.specs.Level.{IsLevelOf, seat_by, crew_by, with_own};
+ghost use Rattle.world_rescue.specs.Parts.{crew_of, next_ballot, goes_on_from, comes_back_from};
+ghost use Rattle.world_rescue.specs.Reaching.{reached};
 ghost use Rattle.world_rescue.specs.Room.{has_slots, IsUpTo, LeavesRoom};
 ghost use Rattle.world_rescue.specs.declared.fault.CourseFault.TheVariants as fault;
-ghost use Rattle.paxos_planning.specs.Node.{log_length};
 
 use crate::bid::{Bid, lead, propose_new};
 use crate::falling::{falls, wanted};
 use crate::fault::CourseFault;
+use crate::reaching::{Level, fetch, highest, next, reach};
 use crate::visits::{ask_all_in_vain, happen, pass};
 use paxos_node::{Event, Node};
-use paxos_packets::{Ballot, Body, Entries, Entry, Members, Memory, Vote};
+use paxos_packets::{Ballot, Body, Entries, Entry, Floor, Members, Memory, Snapshot, Vote};
 use paxos_proposer::Proposer;
 use replica_machine::Roll;
 use std::alloc::Global;
@@ -73,7 +78,7 @@ impl<'a, B: Body> Crew<'a, B> {
     ///
     /// Fails with `NoRoom` if no round is left for one of its ballots, or no slot for an entry, which does not happen where the rounds and
     /// slots that the crew holds leave room, and with `Memory`. After a fault some of the events may be appended. It copies nothing of the
-    /// node's log, unless the node has to go down.
+    /// node's log, unless the node has to go down or to rest on a helper's snapshot.
     pub fn course(
         &self,
         events: &mut Vec<Event<B>>,
@@ -82,47 +87,66 @@ impl<'a, B: Body> Crew<'a, B> {
     ) -> Result<(), CourseFault>
         ensures course { self.now.own.node.rows.boot < last_boot → self.now.own.node.taken < last_number →
             OnOk result (events.new.items ≡ events.old.items ++ course B.same self.now (act number body.now)) }
-        ensures room { (round slot most : ℕ) → IsUpTo round slot most self.now → LeavesRoom round slot most → IsOkUnless result fault.Memory }
+        ensures room { (round slot most : ℕ) → IsUpTo round slot most (reached self.now) → LeavesRoom round slot most → IsOkUnless result fault.Memory }
     {
-        let applied = self.own.applied();
-        let seen = self.look(events, applied + 1)?;
-        let mut proposer = self.proposer(seen);
-        let ballot = self.first_pass(events, &mut proposer, applied)?;
-        let cast = proposer.proposed_after(applied);
-        let mut roll = self.own.roll().copy();
-        if falls(&mut roll, self.own.me(), self.own.boot(), cast) {
-            return self.comes_back(events, ballot, cast, number, body);
-        }
-        let log = applied + cast.len() as u64;
-        self.goes_on(events, &mut proposer, &roll, log, number, body)
+        let level = reach(self.alloc, events, self.own, self.helpers)?;
+        let done = self.level_course(events, &level, number, body);
+        drop(level);
+        done
     }
 
-    // The node leads, and what it proposes after this many entries is voted for. Returns the ballot in which it leads.
+    // The rest, once the node is level.
+    fn level_course(
+        &self,
+        events: &mut Vec<Event<B>>,
+        level: &Level<'_, B>,
+        number: u32,
+        body: &B,
+    ) -> Result<(), CourseFault>
+        ensures course { (x : NodeState B) → IsLevelOf self.now.own.node.rows.votes level.now x → x.rows.boot < 2 ^ 48 → x.taken < last_number →
+            OnOk result (events.new.items ≡ events.old.items ++ level_course B.same (with_own self.now x) (act number body.now)) }
+        ensures room { (round slot most : ℕ) → IsUpTo round slot most (crew_by self.now level.now) → level.now.log ≤ slot → LeavesRoom round slot most →
+            IsOkUnless result fault.Memory }
+    {
+        let seen = self.look(events, level)?;
+        let mut proposer = self.proposer(seen);
+        let ballot = self.first_pass(events, level, &mut proposer)?;
+        let applied = level.log.get();
+        let cast = proposer.proposed_after(applied);
+        let mut roll = level.roll.copy();
+        if falls(&mut roll, self.own.me(), level.boot, cast) {
+            return self.comes_back(events, level, ballot, cast, number, body);
+        }
+        let log = applied + cast.len() as u64;
+        self.goes_on(events, level, &mut proposer, &roll, log, number, body)
+    }
+
+    // The node leads, and what it proposes after its log is voted for. Returns the ballot in which it leads.
     fn first_pass(
         &self,
         events: &mut Vec<Event<B>>,
+        level: &Level<'_, B>,
         proposer: &mut Proposer<B>,
-        applied: u64,
     ) -> Result<Ballot, CourseFault>
         requires me { proposer.old.state.me ≡ self.now.own.number }
         requires members { proposer.old.state.members ≡ self.now.members }
-        requires applied { applied ≡ log_length self.now.own.node }
-        requires within { applied < 2 ^ 40 }
         ensures events { OnOk result (events.new.items ≡ events.old.items
-            ++ (lead (own_ballot self.now.own.number proposer.old.state.proposer) (suc applied) [] self.now.helpers
-            ++ pass self.now.own.number self.now.helpers (behind applied (proposals_of (role_in proposer.new))))) }
-        ensures role { OnOk result (role_in proposer.new ≡ led B.same self.now.members applied self.now.own.node.pending
-            (own_ballot self.now.own.number proposer.old.state.proposer) (suc applied) [] self.now.own self.now.helpers) }
+            ++ (lead (own_ballot self.now.own.number proposer.old.state.proposer) (suc level.now.log) [] self.now.helpers
+            ++ pass self.now.own.number self.now.helpers (behind level.now.log (proposals_of (role_in proposer.new))))) }
+        ensures role { OnOk result (role_in proposer.new ≡ led B.same self.now.members level.now.log level.now.pending
+            (own_ballot self.now.own.number proposer.old.state.proposer) (suc level.now.log) [] (seat_by self.now.own level.now) self.now.helpers) }
         ensures ballot { IfOk result (λ ballot. ballot ≡ own_ballot self.now.own.number proposer.old.state.proposer) }
         ensures room { suc proposer.old.state.proposer.seen < round_end →
-            has_slots (led B.same self.now.members applied self.now.own.node.pending (own_ballot self.now.own.number proposer.old.state.proposer)
-            (suc applied) [] self.now.own self.now.helpers) ≡ true → IsOkUnless result fault.Memory }
+            has_slots (led B.same self.now.members level.now.log level.now.pending (own_ballot self.now.own.number proposer.old.state.proposer)
+            (suc level.now.log) [] (seat_by self.now.own level.now) self.now.helpers) ≡ true → IsOkUnless result fault.Memory }
     {
+        let applied = level.log.get();
         let bid = Bid {
             applied,
             first: applied + 1,
+            floor: floor_at(level.snapshot),
             cast: &[],
-            pending: self.own.pending(),
+            pending: level.pending.as_slice(),
         };
         let ballot = lead(self.alloc, events, proposer, self.own, self.helpers, &bid)?;
         self.pass(events, proposer.proposed_after(applied))?;
@@ -131,22 +155,31 @@ impl<'a, B: Body> Crew<'a, B> {
 
     // Begins a ballot that need not be promised, so that the node sees the rounds that the helpers promised. Returns the greatest round that
     // it saw then.
-    fn look(&self, events: &mut Vec<Event<B>>, first: u64) -> Result<u64, CourseFault>
+    fn look(&self, events: &mut Vec<Event<B>>, level: &Level<'_, B>) -> Result<u64, CourseFault>
         ensures events { OnOk result (events.new.items
-            ≡ events.old.items ++ look (own_ballot self.now.own.number self.now.own.node.proposer) first self.now.helpers) }
-        ensures seen { IfOk result (λ round. round ≡ seen_then (own_ballot self.now.own.number self.now.own.node.proposer) self.now.helpers) }
-        ensures room { suc self.now.own.node.proposer.seen < round_end → IsOkUnless result fault.Memory }
+            ≡ events.old.items ++ look (next_ballot self.now.own.number level.now.seen) (suc level.now.log) self.now.helpers) }
+        ensures seen { IfOk result (λ round. round ≡ seen_then (next_ballot self.now.own.number level.now.seen) self.now.helpers) }
+        ensures room { suc level.now.seen < round_end → IsOkUnless result fault.Memory }
     {
-        let Ok(ballot) = self.own.next_ballot() else {
-            return Err(CourseFault::NoRoom);
-        };
+        let ballot = self.next_ballot(level.seen)?;
         happen(
             events,
             Event::Start {
                 node: self.own.me(),
             },
         )?;
-        Ok(ask_all_in_vain(events, self.helpers, ballot, first)?)
+        Ok(ask_all_in_vain(events, self.helpers, ballot, level.log.get() + 1)?)
+    }
+
+    // Returns the node's ballot after this round, or a fault if no round is left.
+    fn next_ballot(&self, seen: u64) -> Result<Ballot, CourseFault>
+        ensures ballot { IfOk result (λ ballot. ballot ≡ next_ballot self.now.own.number seen) }
+        ensures room { suc seen < round_end → IsOkUnless result fault.Memory }
+    {
+        let Ok(ballot) = self.proposer(seen).next_ballot() else {
+            return Err(CourseFault::NoRoom);
+        };
+        Ok(ballot)
     }
 
     // Has each helper cast each of these votes, and brings them to the node.
@@ -161,58 +194,59 @@ impl<'a, B: Body> Crew<'a, B> {
     fn goes_on(
         &self,
         events: &mut Vec<Event<B>>,
+        level: &Level<'_, B>,
         proposer: &mut Proposer<B>,
         roll: &Roll,
         log: u64,
         number: u32,
         body: &B,
     ) -> Result<(), CourseFault>
-        ensures course { (stands : ℕ → Standing) → HasStandings stands roll.now → self.now.own.node.taken < last_number →
+        ensures course { (stands : ℕ → Standing) → HasStandings stands roll.now → level.now.taken < last_number →
             OnOk result (events.new.items ≡ events.old.items
-            ++ goes_on_from B.same self.now (act number body.now) stands log (role_in proposer.old)) }
+            ++ goes_on_from B.same (crew_by self.now level.now) (act number body.now) stands log (role_in proposer.old)) }
         ensures room { (stands : ℕ → Standing) → HasStandings stands roll.now → ((e : entries.Entry B) → has_slots (propose_new B.same log
-            (filter (is_wanted_by stands) self.now.own.node.pending ++ e ∷ []) (role_in proposer.old)) ≡ true) → IsOkUnless result fault.Memory }
+            (filter (is_wanted_by stands) level.now.pending ++ e ∷ []) (role_in proposer.old)) ≡ true) → IsOkUnless result fault.Memory }
     {
         self.take(events, number, body)?;
-        let mut pending = wanted(self.alloc, roll, self.own.pending())?;
-        self.wait(
-            &mut pending,
-            self.own.boot(),
-            next(self.own.taken()),
-            number,
-            body,
-        )?;
+        let mut pending = wanted(self.alloc, roll, level.pending.as_slice())?;
+        self.wait(&mut pending, level.boot, next(level.taken), number, body)?;
         propose_new(self.alloc, proposer, log, pending.as_slice())?;
         self.pass(events, proposer.proposed_after(log))
     }
 
-    // The rest if the node goes down, once these votes were cast: it begins its next boot, takes the act, leads, and learns the log anew.
+    // The rest if the node goes down, once these votes were cast: it begins its next boot, rests on a helper's snapshot that gives more than its
+    // own, takes the act, leads, and learns the log anew.
     fn comes_back(
         &self,
         events: &mut Vec<Event<B>>,
+        level: &Level<'_, B>,
         ballot: Ballot,
         cast: &[Vote<B>],
         number: u32,
         body: &B,
     ) -> Result<(), CourseFault>
-        ensures course { self.now.own.node.rows.boot < last_boot →
-            OnOk result (events.new.items ≡ events.old.items ++ comes_back_from B.same self.now (act number body.now) ballot cast.now) }
-        ensures room { suc ballot.round < round_end → ((b : ballots.Ballot) (d e : entries.Entry B) →
-            has_slots (led B.same self.now.members 0 (d ∷ e ∷ []) b 1 cast.now self.now.own self.now.helpers) ≡ true) → IsOkUnless result fault.Memory }
+        ensures course { level.now.boot < 2 ^ 48 → OnOk result (events.new.items
+            ≡ events.old.items ++ comes_back_from B.same (crew_by self.now level.now) (act number body.now) ballot cast.now) }
+        ensures room { suc ballot.round < round_end → ((b : ballots.Ballot) (d e : entries.Entry B) → has_slots (led B.same self.now.members
+            (floor_again (crew_by self.now level.now)) (d ∷ e ∷ []) b (suc (floor_again (crew_by self.now level.now))) cast.now
+            (own_again (crew_by self.now level.now)) self.now.helpers) ≡ true) → IsOkUnless result fault.Memory }
     {
         let node = self.own.me();
         happen(events, Event::Restart { node })?;
+        let floor = self.fetch_again(events, level)?;
         self.take(events, number, body)?;
-        let boot = next(self.own.boot());
+        let boot = next(level.boot);
         let mut pending = Entries::new(self.alloc);
         let Ok(()) = pending.push(Entry::Boot { node, boot }) else {
             return Err(CourseFault::Memory);
         };
         self.wait(&mut pending, boot, 1, number, body)?;
         let mut proposer = self.proposer(ballot.round);
+        let applied = floor.get();
         let bid = Bid {
-            applied: 0,
-            first: 1,
+            applied,
+            first: applied + 1,
+            floor,
             cast,
             pending: pending.as_slice(),
         };
@@ -224,7 +258,20 @@ impl<'a, B: Body> Crew<'a, B> {
             self.helpers,
             &bid,
         )?;
-        self.pass(events, proposer.proposed_after(0))
+        self.pass(events, proposer.proposed_after(applied))
+    }
+
+    // Has the node, which began its next boot, rest on a helper's snapshot whose floor is above its own, if there is one. Returns its floor then.
+    fn fetch_again(&self, events: &mut Vec<Event<B>>, level: &Level<'_, B>) -> Result<Floor, Memory>
+        ensures events { OnOk result (events.new.items ≡ events.old.items ++ fetch_again (crew_by self.now level.now)) }
+        ensures floor { IfOk result (λ floor. floor ≡ floor_again (crew_by self.now level.now)) }
+    {
+        let floor = floor_at(level.snapshot);
+        let Some(source) = highest(floor.get(), self.helpers) else {
+            return Ok(floor);
+        };
+        fetch(events, self.own.me(), floor.get() + 1, &source)?;
+        Ok(source.floor())
     }
 
     // Returns a proposer of the node that saw this round.
@@ -277,9 +324,12 @@ impl<'a, B: Body> Crew<'a, B> {
     }
 }
 
-// Returns the number after this one; none of a boot or an act is above 2^48 - 1.
-fn next(number: u64) -> u64
-    ensures { number < 2 ^ 48 → result ≡ suc number }
+// Returns the floor of the snapshot.
+fn floor_at(snapshot: Option<&Snapshot>) -> Floor
+    ensures { result ≡ floor_in (option_copied snapshot.entry) }
 {
-    number.saturating_add(1)
+    let Some(snapshot) = snapshot else {
+        return Floor::none();
+    };
+    Floor::at(snapshot.floor())
 }

@@ -6,6 +6,7 @@ mod bid;
 mod crew;
 mod falling;
 mod fault;
+mod reaching;
 mod visits;
 
 pub use crew::Crew;

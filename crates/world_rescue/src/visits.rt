@@ -10,7 +10,7 @@ use paxos_packets::{Ballot, Body, Kind, Memory, Packet, Vote, Votes};
 use std::alloc::Global;
 
 // Appends that a packet reaches its addressee.
-fn deliver<B: Drop>(
+pub(crate) fn deliver<B: Drop>(
     events: &mut Vec<Event<B>>,
     sender: u8,
     kind: Kind<B>,

@@ -11,6 +11,6 @@ invariant-loop-helper g l =
     (l.events.items ++ flat_map (promises l.ballot l.bid.first l.bid.cast.now) (map (λ h. seat_of h.now) (drop l.helper-index l.helpers))
     ≡ l.initial.events.items ++ flat_map (promises l.ballot l.bid.first l.bid.cast.now) (map (λ h. seat_of h.now) l.helpers))
     × (with_role (fold (λ r s. hears g.B.Body.same l.proposer.state.members l.bid.applied l.bid.pending.now l.ballot s.number
-    (floor_of s) (votes_then l.bid.first l.bid.cast.now s) l.own r) (role_in l.proposer) (map (λ h. seat_of h.now) (drop l.helper-index l.helpers))) l.proposer.state
+    (floor_of s) (votes_then l.bid.first l.bid.cast.now s) l.bid.floor r) (role_in l.proposer) (map (λ h. seat_of h.now) (drop l.helper-index l.helpers))) l.proposer.state
     ≡ with_role (fold (λ r s. hears g.B.Body.same l.initial.proposer.state.members l.bid.applied l.bid.pending.now l.ballot s.number
-    (floor_of s) (votes_then l.bid.first l.bid.cast.now s) l.own r) (role_in l.initial.proposer) (map (λ h. seat_of h.now) l.helpers)) l.initial.proposer.state)
+    (floor_of s) (votes_then l.bid.first l.bid.cast.now s) l.bid.floor r) (role_in l.initial.proposer) (map (λ h. seat_of h.now) l.helpers)) l.initial.proposer.state)

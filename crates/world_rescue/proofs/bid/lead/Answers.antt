@@ -1,5 +1,5 @@
 use Rattle.std.proofs.Common.{map}
-use Rattle.world_rescue.specs.Course.{seat_of}
+use Rattle.world_rescue.specs.Course.{seat_of, votes_then}
 use Rattle.world_rescue.proofs.Fitting.{not_spent}
 use Rattle.world_rescue.proofs.Lacking.{handed, is_no, led_then}
 use Rattle.world_rescue.proofs.bid.lead.Goals as goal
@@ -12,6 +12,6 @@ pub returns-in_err-hear_all-clause-room : goal.returns-in_err-hear_all-clause-ro
 returns-in_err-hear_all-clause-room g c = λ round h.
     let bid = c.args.bid.now in
     handed c.from_residual-in_err-hear_all.result c.in_err-hear_all.field-0.0 c.from_residual-in_err-hear_all.ensures.1
-    (c.in_err-hear_all.ensures.room (led_then g.B.Body.same bid.applied bid.pending.now c.in-Ok-start.ballot bid.first bid.cast.now (seat_of c.args.own.now)
-    (map (λ h. seat_of h.now) c.args.helpers.now) c.floor.result c.floor-2.result c.in_ok-votes.votes c.args.proposer.now.state c.start.new.self.state c.requires.me
-    c.in-Ok-start.ensures.ballot c.floor.ensures c.floor-2.ensures c.in_ok-votes.ensures c.in-Ok-start.ensures.ok h))
+    (c.in_err-hear_all.ensures.room (led_then g.B.Body.same bid.applied bid.pending.now c.in-Ok-start.ballot bid.first bid.cast.now c.args.own.now.me
+    bid.floor c.in_ok-votes.votes (votes_then bid.first bid.cast.now (seat_of c.args.own.now)) (map (λ h. seat_of h.now) c.args.helpers.now)
+    c.args.proposer.now.state c.start.new.self.state c.requires.me c.in-Ok-start.ensures.ballot c.in_ok-votes.ensures c.in-Ok-start.ensures.ok h))

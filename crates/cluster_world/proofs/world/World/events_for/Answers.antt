@@ -1,4 +1,4 @@
-use Rattle.std.proofs.Common.{◌≡◌, sym, ap, ◌∙◌, subst, rules}
+use Rattle.std.proofs.Common.{◌≡◌, suc, sym, ap, ◌∙◌, subst, rules}
 use Rattle.std.specs.Prelude.{map}
 use Rattle.paxos_node.specs.Events.{most_pending}
 use Rattle.cluster_world.proofs.Refusing.{appended, course_memory}
@@ -6,6 +6,7 @@ use Rattle.cluster_world.specs.Helpers.{helpers_of}
 use Rattle.cluster_world.specs.Rescue.{last_rescue_round, last_rescue_slot}
 use Rattle.world_rescue.specs.Course.{Crew, act, seat_of}
 use Rattle.world_rescue.specs.Parts.{crew_of}
+use Rattle.world_rescue.specs.Reaching.{reached}
 use Rattle.world_rescue.specs.Room.{IsUpTo}
 use Rattle.cluster_world.proofs.world.World.events_for.Goals as goal
 
@@ -28,5 +29,5 @@ returns-in_err-course-clause-room g c = λ room.
     let crew : c.of.result ≡ crew_of c.args.self.now.members (seat_of c.args.own.now) (helpers_of c.args.self.now.nodes c.args.node c.args.self.now.members) =
     c.of.ensures ∙ (λ i. crew_of (members i) (seat_of c.args.own.now) (helpers i)) in
     course_memory c.from_residual-in_err-course.result c.in_err-course.field-0.0 c.from_residual-in_err-course.ensures.1
-    (c.in_err-course.ensures.room last_rescue_round last_rescue_slot most_pending
-    (subst (λ (v : Crew g.row.M-Body.Denot). IsUpTo last_rescue_round last_rescue_slot most_pending v) (sym crew) room.0) room.1)
+    (c.in_err-course.ensures.room (suc last_rescue_round) last_rescue_slot most_pending
+    (subst (λ (v : Crew g.row.M-Body.Denot). IsUpTo (suc last_rescue_round) last_rescue_slot most_pending (reached v)) (sym crew) room.0) room.1)
