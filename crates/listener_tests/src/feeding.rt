@@ -238,7 +238,7 @@ fn waits<F: Feed<Act, Say>, G: Gate>(
     is_told(rt, two, "p");
 }
 
-// A client for whom more than 4,096 sayings wait is closed, and nobody else; in another boot all are.
+// A client for whom more than 8,192 sayings wait is closed, and nobody else; in another boot all are.
 fn closes(
     rt: &impl Abort,
     alloc: Global,
@@ -284,12 +284,32 @@ fn ticks<F: Feed<Act, Say>, G: Gate>(
     is_first: bool,
 ) {
     if is_first {
-        check_eq!(rt; comes(rt, alloc, gate, feed, "b"), 1);
-        check_eq!(rt; comes(rt, alloc, gate, feed, "t"), 63);
+        check_eq!(rt; comes(rt, alloc, gate, feed, &quiet(), "b"), 1);
+        check_eq!(rt; comes(rt, alloc, gate, feed, &quiet(), "t"), 63);
     } else {
-        check_eq!(rt; comes(rt, alloc, gate, feed, "t"), 64);
+        check_eq!(rt; comes(rt, alloc, gate, feed, &quiet(), "t"), 64);
     }
-    check!(rt; comes(rt, alloc, gate, feed, "t") >= 64);
+    check!(rt; comes(rt, alloc, gate, feed, &quiet(), "t") >= 64);
+}
+
+// While many packets wait for another node no tick comes, unless the node lacks entries: it does not lead, and more than 4,096 slots are open.
+fn ticks_behind<F: Feed<Act, Say>, G: Gate>(
+    rt: &impl Abort,
+    alloc: Global,
+    gate: &G,
+    feed: &mut F,
+) {
+    let mut seen = quiet();
+    seen.waiting[2] = 65;
+    for (leads, open_slots) in [(false, 4096), (true, 4097)] {
+        seen.leads = leads;
+        seen.open_slots = open_slots;
+        for _ in 0..128 {
+            gives(rt, alloc, gate, feed, &seen, "");
+        }
+    }
+    seen.leads = false;
+    check!(rt; comes(rt, alloc, gate, feed, &seen, "t") < 200);
 }
 
 // What happens at a node.
@@ -305,6 +325,8 @@ enum Happens {
     Waits,
     // Time passes.
     Ticks,
+    // Time passes while packets wait for another node.
+    TicksBehind,
 }
 
 // Two clients arrive, and do so.
@@ -343,7 +365,7 @@ fn one_more_comes<R: Abort + Net<Listener = TcpListener, Stream = TcpStream>>(
     drop::<Client>(three);
 }
 
-// A client whose ring of sayings is three quarters full is slow, until the node finds that the client has hung up.
+// A client for whom 1,024 sayings wait is slow, until the node finds that the client has hung up.
 fn slow_leaves<F: Feed<Act, Say>, G: Gate>(
     rt: &impl Abort,
     alloc: Global,
@@ -356,7 +378,7 @@ fn slow_leaves<F: Feed<Act, Say>, G: Gate>(
     lobby.stir();
     check!(rt; gate.pass(NODE, 1));
     check_eq!(rt; next_letter(feed), Some('C'));
-    for _ in 0..SAYINGS_WAITING / 4 * 3 {
+    for _ in 0..SAYINGS_WAITING / 8 {
         check!(rt; !lobby.has_slow());
         hand(rt, alloc, feed, BOOT, &[1]);
     }
@@ -416,6 +438,7 @@ fn happen<R: Abort + Net<Listener = TcpListener, Stream = TcpStream>>(
         Happens::Leaves => one_leaves(rt, alloc, gate, feed, lobby, arrivals),
         Happens::Waits => three_wait(rt, alloc, gate, feed, lobby, arrivals),
         Happens::Ticks => ticks(rt, alloc, gate, feed, node == 1),
+        Happens::TicksBehind => ticks_behind(rt, alloc, gate, feed),
     }
 }
 
@@ -511,4 +534,9 @@ fn ticks_after_64_rounds_and_starts_at_once_at_node_1(rt: HostRuntime) {
     for node in 1..3 {
         at_node(&rt, rt.alloc(), node, Happens::Ticks);
     }
+}
+
+#[test]
+fn ticks_while_packets_wait_if_it_lacks_entries(rt: HostRuntime) {
+    at_node(&rt, rt.alloc(), NODE, Happens::TicksBehind);
 }

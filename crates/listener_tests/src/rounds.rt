@@ -109,10 +109,11 @@ fn first_event<F: Feed<Act, Say>, G: Gate>(
     rt: &impl Abort,
     gate: &G,
     feed: &mut F,
+    seen: &Seen,
     letters: &mut String,
 ) -> u32 {
     for count in 1..1000 {
-        put_round(rt, gate, feed, &quiet(), letters);
+        put_round(rt, gate, feed, seen, letters);
         if letters.len() > 0 {
             return count;
         }
@@ -126,10 +127,11 @@ pub fn comes<F: Feed<Act, Say>, G: Gate>(
     alloc: Global,
     gate: &G,
     feed: &mut F,
+    seen: &Seen,
     letter: &str,
 ) -> u32 {
     let mut letters = String::new(alloc);
-    let count = first_event(rt, gate, feed, &mut letters);
+    let count = first_event(rt, gate, feed, seen, &mut letters);
     check_eq!(rt; letters.as_str(), letter);
     drop(letters);
     count

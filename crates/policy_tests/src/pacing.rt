@@ -164,17 +164,17 @@ fn gives_1000_acts_if_it_leads_and_else_4_or_2(rt: HostRuntime) {
 
 // The room for sayings that is left after 64 more were put, whether the node then waits for the client, and whether it has done so in vain.
 const ROOM: &[(usize, bool, bool)] = &[
-    (4096, false, false),
-    (1025, false, false),
-    (1024, true, false),
+    (8192, false, false),
+    (7169, false, false),
+    (7168, true, false),
     (0, true, true),
     (0, false, false),
-    (2048, false, false),
-    (1024, false, false),
-    (4031, false, false),
-    (1024, false, false),
-    (4032, false, false),
-    (1024, true, false),
+    (7680, false, false),
+    (7168, false, false),
+    (8127, false, false),
+    (7168, false, false),
+    (8128, false, false),
+    (7168, true, false),
 ];
 
 #[test]

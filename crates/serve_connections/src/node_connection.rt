@@ -11,11 +11,11 @@ use std::alloc::{AllocError, Global};
 use std::net::TcpStream;
 use std::sync::Arc;
 
-/// How many sayings may wait for a client in the ring of its connection, from which its porter takes them. While a processor is shared, a node
-/// that catches up says thousands before the porter has its turn.
+/// How many sayings may wait for a client in the ring of its connection, from which its porter takes them. Within a turn a node waits for no
+/// client, and it says some thousands if it lacked an entry for a moment and then has it.
 ///
-/// A ring takes up to 704 KiB, 176 octets a saying: no more of it than the connection has used at some time.
-pub const SAYINGS_WAITING: usize = 4096;
+/// A ring takes 176 octets of memory for each saying until it has come around: nothing at first, and 1.4 MiB after 8,192 sayings.
+pub const SAYINGS_WAITING: usize = 8192;
 
 /// A connection that came, as its node gets it: the end of its requests, the ring of its sayings, and the node's hold on the
 /// connection, which is dropped with the arrival.

@@ -1,5 +1,5 @@
 -- What a turn of a node shows of the cluster's work (docs/THREADS.md). Nothing that is claimed of a cluster rests on it.
-use Rattle.std.specs.Prelude.{ℕ, ◌^◌, ◌-◌, min, ◌&&◌, not, Bool, true, false, Option, Some, None, if◌then◌else◌}
+use Rattle.std.specs.Prelude.{ℕ, ◌^◌, ◌-◌, min, nat_lt, ◌&&◌, not, Bool, true, false, Option, Some, None, if◌then◌else◌}
 use Rattle.paxos_packets.specs.Ballot.{below, same_ballot}
 use Rattle.paxos_packets.specs.declared.ballot.Ballot.{Ballot}
 use Rattle.node_actor.specs.declared.heard.Heard.{Heard}
@@ -47,3 +47,7 @@ turn_of seen before beats = record {
   is_pending = seen.pending;
   beats = beats;
 }
+
+-- whether a node lacks entries: it does not lead, and has voted in more than 4,096 slots after its log
+abbrev pub lacks_entries : Seen → Bool
+lacks_entries seen = not seen.leads && nat_lt 4096 seen.open_slots

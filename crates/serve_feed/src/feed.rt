@@ -15,11 +15,12 @@ use crate::home::Home;
 use crate::lanes::Lanes;
 use crate::pace::Pace;
 use crate::peers::Peers;
-use crate::signs::turn_of;
+use crate::signs::{lacks_entries, turn_of};
+use crate::waking::{say_waits, wake_peers};
 use actor_run::{Feed, Seen};
 use client_listener::ToClient;
 use paxos_node::Event;
-use paxos_packets::{Ballot, Members, NodeSet};
+use paxos_packets::{Ballot, Members};
 use realm_acts::Act;
 use realm_machine::{Out, Say};
 use rtrb::Consumer;
@@ -351,6 +352,11 @@ impl<'a> ClientFeed<'a> {
         }
     }
 
+    // Returns whether a tick may come: none is held back for another member, or the node lacks entries.
+    fn may_tick(&self, seen: &Seen) -> bool {
+        !self.boot.peers.holds_ticks() || lacks_entries(seen)
+    }
+
     // Returns the event that time has brought.
     fn due(&mut self, due: Due) -> Event<Act>
         ensures node { self.new.node ≡ self.old.node }
@@ -445,9 +451,10 @@ impl Feed<Act, Say> for ClientFeed<'_> {
             → Saw self.new.node self.new.lanes.sources (given ++ option_to_list result) }
     {
         self.see(&seen);
+        let may_tick = self.may_tick(&seen);
         let commit = self.boot.commits.beats();
         if self.round.may_be_due
-            && let Some(due) = self.boot.ticks.next(!self.boot.peers.holds_ticks(), commit)
+            && let Some(due) = self.boot.ticks.next(may_tick, commit)
         {
             return Some(self.due(due));
         }
@@ -473,40 +480,6 @@ impl Feed<Act, Say> for ClientFeed<'_> {
         }
         self.lanes.wake_told();
     }
-}
-
-// Says in the node's lobby for which members its packets wait.
-fn say_waits(lobby: &Lobby, members: Members, waiting: &[u16; 7]) {
-    for below in 0..members.count() {
-        if let Some(count) = waiting.get(usize::from(below)) {
-            lobby.set_waits(below + 1, *count > 0);
-        }
-    }
-}
-
-// Wakes the nodes that the last turn of this node posted to, unless what it posted may wait, and the node whose packet it took, if packets of
-// that node wait for room. Returns whether the turn posted or took any packet.
-fn wake_peers(
-    node: u8,
-    members: Members,
-    lobbies: &[Arc<Lobby>],
-    seen: &Seen,
-    may_wait: bool,
-) -> bool {
-    if seen.from.is_none() && seen.posted == NodeSet::new() {
-        return false;
-    }
-    for below in 0..members.count() {
-        let peer = below + 1;
-        let posted = !may_wait && seen.posted.contains(peer);
-        let took = seen.from == Some(peer);
-        if let Some(lobby) = lobbies.get(usize::from(below))
-            && (posted || took && lobby.waits_for(node))
-        {
-            lobby.wake();
-        }
-    }
-    true
 }
 
 // Returns a saying in the form in which a porter takes it.

@@ -26,6 +26,7 @@ mod pace;
 mod peers;
 mod signs;
 mod sources;
+mod waking;
 
 pub use actor_run::{Feed, Gate, Seen};
 pub use feed::ClientFeed;

@@ -1,11 +1,14 @@
 // What a turn of a node shows of the cluster's work.
 ghost use Rattle.std.specs.Prelude.{◌≡◌};
-ghost use Rattle.serve_feed.specs.Signs.{turn_of, sign_of, shown, counted, is_promised};
+ghost use Rattle.serve_feed.specs.Signs.{turn_of, sign_of, shown, counted, is_promised, lacks_entries};
 
 use actor_run::Seen;
 use node_actor::Heard;
 use paxos_packets::Ballot;
 use serve_policy::{Sign, Turn};
+
+/// How many slots may be open after the log of a node before it is taken to lack entries.
+const MOST_OPEN: u64 = 4096;
 
 // Returns what a turn brought while `beats` are due, if `before` was promised before it.
 pub(crate) fn turn_of(seen: &Seen, before: Option<Ballot>, beats: u64) -> Turn
@@ -76,4 +79,12 @@ fn is_promised(before: Option<Ballot>, ballot: Ballot) -> bool
         Some(other) => other == ballot,
         None => false,
     }
+}
+
+// Returns whether a node lacks entries: it does not lead, and has voted in more than 4,096 slots after its log. A packet to it was lost, and its
+// tick asks for what it lacks. Once it has that, it applies all that follows in one turn, and says what that says.
+pub(crate) fn lacks_entries(seen: &Seen) -> bool
+    ensures { result ≡ lacks_entries seen.now }
+{
+    !seen.leads && seen.open_slots > MOST_OPEN
 }

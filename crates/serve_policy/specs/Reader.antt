@@ -13,10 +13,10 @@ first_reader = record { put = 0; is_ignored = false }
 abbrev pub putting : Reads → Bool × Reads
 putting r = if nat_lt r.put 63 then (false, record r { put = suc r.put }) else (true, record r { put = 0 })
 
--- the ring has this much room: whether the node waits for the client, which it does at 1,024 or less unless it ignores the client; at
--- 4,032 or more it no longer ignores it, since all but the last 64 sayings were taken
+-- the ring has this much room: whether the node waits for the client, which it does at 7,168 or less unless it ignores the client; at
+-- 8,128 or more it no longer ignores it, since all but the last 64 sayings were taken
 abbrev pub judging : ℕ → Reads → Bool × Reads
-judging room r = (nat_le room 1024 && not r.is_ignored, record r { is_ignored = r.is_ignored && nat_lt room 4032 })
+judging room r = (nat_le room 7168 && not r.is_ignored, record r { is_ignored = r.is_ignored && nat_lt room 8128 })
 
 -- the node has waited in vain
 abbrev pub ignoring : Reads → Reads

@@ -4,16 +4,17 @@ ghost use Rattle.serve_policy.specs.Reader.{first_reader, putting, judging, igno
 
 use std::marker::Model;
 
-/// A client is slow if its ring of 4,096 sayings has room for at most this many.
-const LITTLE_ROOM: usize = 1024;
+/// A client is slow if its ring of 8,192 sayings has room for at most this many: the room is for what the node says in its next turn, within
+/// which it does not wait.
+const SLOW_ROOM: usize = 7168;
 
 /// A client has caught up if its ring has room for at least this many: all was taken that had been put before the last look.
-const MUCH_ROOM: usize = 4032;
+const MUCH_ROOM: usize = 8128;
 
 /// After how many sayings the room in the ring is looked at.
 const SAYINGS_A_LOOK: u8 = 64;
 
-/// Whether a client of the node reads what is put into its ring of 4,096 sayings: how many were put since the last look at the room, and
+/// Whether a client of the node reads what is put into its ring of 8,192 sayings: how many were put since the last look at the room, and
 /// whether the node has waited for the client in vain. A clause sees both.
 ///
 /// A node waits for a slow client so that a burst closes no connection of a client that reads. It waits once: a client that does not read
@@ -56,7 +57,7 @@ impl Reader {
     }
 
     /// Judges the client by the room in its ring. Returns whether the client is slow, so that the node waits for it: there is room for at
-    /// most 1,024 sayings, and the node does not ignore the client. With room for 4,032 or more the node no longer ignores it: the client
+    /// most 7,168 sayings, and the node does not ignore the client. With room for 8,128 or more the node no longer ignores it: the client
     /// has taken all but the last 64.
     pub fn judge(&mut self, room: usize) -> bool
         ensures { (result, self.new) ≡ judging room self.old }
@@ -64,7 +65,7 @@ impl Reader {
         if room >= MUCH_ROOM {
             self.is_ignored = false;
         }
-        room <= LITTLE_ROOM && !self.is_ignored
+        room <= SLOW_ROOM && !self.is_ignored
     }
 
     /// Notes that the node has waited for the client in vain: it ignores the client until the client has caught up.
