@@ -1,5 +1,6 @@
 //! Measures of the consensus core, each over a run of this program: `core_bench log N W`, `core_bench codec N`,
-//! `core_bench nodes N W number|act`, `core_bench actors N W`, `core_bench threads N W`, `core_bench rescue N` and `core_bench all N W`.
+//! `core_bench nodes N W number|act`, `core_bench cuts N W`, `core_bench actors N W`, `core_bench threads N W`, `core_bench rescue N` and
+//! `core_bench all N W`.
 #![tactic(auto)]
 
 mod actors;
@@ -23,6 +24,7 @@ const USAGE: &str = "\
 usage: core_bench log N W
        core_bench codec N
        core_bench nodes N W number|act
+       core_bench cuts N W
        core_bench actors N W
        core_bench threads N W
        core_bench rescue N
@@ -31,6 +33,7 @@ usage: core_bench log N W
   codec N  puts and takes a PUBLISH with 200 octets of text N times a turn, beside writing it and reading its text
   nodes N W number|act
            takes N acts with such bodies, W at a time, at two of three nodes by turns, and passes their packets by hand
+  cuts N W does the same with numbers, at most 16 at a time, while each node cuts its log after W acts
   actors N W
            does the same with numbers at three actors over stores in memory
   threads N W
@@ -77,6 +80,7 @@ enum Measure {
     Codec,
     Numbers,
     Acts,
+    Cuts,
     Actors,
     Threads,
     Rescue,
@@ -90,6 +94,7 @@ const MEASURES: &[Row] = &[
     ("codec", "", 2, &[Measure::Codec]),
     ("nodes", "number", 4, &[Measure::Numbers]),
     ("nodes", "act", 4, &[Measure::Acts]),
+    ("cuts", "", 3, &[Measure::Cuts]),
     ("actors", "", 3, &[Measure::Actors]),
     ("threads", "", 3, &[Measure::Threads]),
     ("rescue", "", 2, &[Measure::Rescue]),
@@ -101,6 +106,7 @@ const EACH: &[Measure] = &[
     Measure::Codec,
     Measure::Numbers,
     Measure::Acts,
+    Measure::Cuts,
     Measure::Actors,
     Measure::Threads,
     Measure::Rescue,
@@ -146,6 +152,7 @@ fn run_one(
         Measure::Codec => codec::run(rt, load.acts),
         Measure::Numbers => nodes::run_numbers(rt, load),
         Measure::Acts => nodes::run_acts(rt, load),
+        Measure::Cuts => nodes::run_cuts(rt, load),
         Measure::Actors => actors::run(rt, load),
         Measure::Threads => threads::run(rt, threads, load),
         Measure::Rescue => rescue::run(rt, load),

@@ -10,6 +10,8 @@ mod check;
 #[cfg(test)]
 mod codec;
 #[cfg(test)]
+mod cut_worlds;
+#[cfg(test)]
 mod cuts;
 #[cfg(test)]
 mod follower;
@@ -46,7 +48,11 @@ mod proposer;
 #[cfg(test)]
 mod proposing;
 #[cfg(test)]
+mod random_worlds;
+#[cfg(test)]
 mod rescue;
+#[cfg(test)]
+mod rescue_floors;
 #[cfg(test)]
 mod schedule;
 #[cfg(test)]

@@ -10,6 +10,8 @@ use test_machines::Number;
 pub enum Held {
     // A node's Boot, in this boot.
     Boot(u8, u64),
+    // The loss of a node in this boot.
+    Lost(u8, u64),
     // An Item of a node in its boot: its number there, its transport, and its body.
     Item(u8, u64, u64, u32, u32),
 }
@@ -90,6 +92,7 @@ pub const PACKETS: &[Mail] = &[
 pub fn entry_of(held: &Held) -> Entry<Number> {
     match *held {
         Held::Boot(node, boot) => Entry::Boot { node, boot },
+        Held::Lost(node, boot) => Entry::Lost { node, boot },
         Held::Item(node, boot, seq, transport, body) => Entry::Item {
             node,
             boot,

@@ -107,6 +107,34 @@ pub fn flush<M: Machine<Body = Number>>(
     true
 }
 
+// Whether the packet with this number, from 1 on, goes from one of the nodes up to `most` to another one of them.
+fn is_among<M: Machine<Body = Number>>(world: &World<M>, number: usize, most: u8) -> bool {
+    match world.packet(number) {
+        Some(packet) => packet.sender <= most && packet.addressee <= most,
+        None => false,
+    }
+}
+
+// Delivers each packet among the nodes up to `most` after the first `from`, including those that come meanwhile. Returns whether there was
+// memory for all.
+pub fn flush_among<M: Machine<Body = Number>>(
+    rt: &impl Abort,
+    world: &mut World<M>,
+    alloc: Global,
+    from: usize,
+    most: u8,
+) -> bool {
+    for number in from..999 {
+        if number >= world.sent() {
+            break;
+        }
+        if is_among(world, number + 1, most) && !deliver(rt, world, alloc, number + 1) {
+            return false;
+        }
+    }
+    true
+}
+
 // Whether the log of a node holds the entries of these rows.
 pub fn has_log<M: Machine<Body = Number>>(world: &World<M>, node: u8, rows: &[Held]) -> bool {
     is_log(world.log(node), rows)

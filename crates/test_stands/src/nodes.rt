@@ -3,7 +3,8 @@ use crate::closing::push;
 use crate::standing::NODES;
 use paxos_node::{Event, Node, NodeFault, Packets};
 use paxos_packets::{Body, Entries, Entry, Members, Packet, Rows};
-use std::alloc::Global;
+use replica_machine::Standing;
+use std::alloc::{AllocError, Global};
 use std::collections::VecDeque;
 
 // A node, and how many acts it has applied.
@@ -150,6 +151,50 @@ fn happen<B: Body>(nodes: &mut Nodes<B>, number: u8, event: &Event<B>) -> Result
     }
 }
 
+// A cut.
+
+// Appends where a node stands.
+fn put_standing(octets: &mut Vec<u8>, standing: Standing) -> Result<(), AllocError> {
+    let (boot, is_live, taken) = match standing {
+        Standing::Unknown => (0, 0, 0),
+        Standing::Live { boot, taken } => (boot, 1, taken),
+        Standing::Gone { boot } => (boot, 0, 0),
+    };
+    octets.extend_from_slice(&u64::to_be_bytes(boot))?;
+    octets.extend_from_slice(&[is_live])?;
+    octets.extend_from_slice(&u64::to_be_bytes(taken))
+}
+
+// The head of the node's log (docs/PROTOCOL.md, "Snapshots"); the octets of no machine follow.
+fn head_of<B>(alloc: Global, node: &Node<B>) -> Result<Vec<u8>, AllocError> {
+    let mut octets = Vec::from_slice(alloc, &u64::to_be_bytes(node.applied()))?;
+    for standing in &node.roll().seven() {
+        put_standing(&mut octets, *standing)?;
+    }
+    Ok(octets)
+}
+
+// Lets the node rest on a snapshot of these octets.
+fn rest_on<B: Body>(node: &mut Node<B>, octets: &[u8]) -> Result<(), NodeFault> {
+    let outcome = node.plan_cut(octets)?;
+    let (packets, applied) = node.adopt(outcome)?;
+    drop(packets);
+    drop(applied);
+    Ok(())
+}
+
+fn cut<B: Body>(alloc: Global, node: &mut Node<B>) -> Result<(), Missed> {
+    let Ok(octets) = head_of(alloc, node) else {
+        return Err(Missed::Memory);
+    };
+    let done = rest_on(node, &octets);
+    drop(octets);
+    match done {
+        Ok(()) => Ok(()),
+        Err(fault) => Err(Missed::Node(fault)),
+    }
+}
+
 impl<B: Body> Nodes<B> {
     // Lets the event happen at the node with this number, and drops it.
     fn event(&mut self, number: u8, event: Event<B>) -> Result<(), Missed> {
@@ -178,6 +223,23 @@ impl<B: Body> Nodes<B> {
                 body,
             },
         )
+    }
+
+    /// Lets the node cut its log. Its snapshot has the head of the log alone.
+    pub fn cut(&mut self, node: u8) -> Result<(), Missed> {
+        let alloc = *self.members.allocator();
+        match self.members.get_mut(place_of(node)) {
+            Some(member) => cut(alloc, &mut member.node),
+            None => Err(Missed::Nobody),
+        }
+    }
+
+    /// Returns the floor of the node, 0 if there is none with this number.
+    pub fn floor(&self, node: u8) -> u64 {
+        match self.members.get(place_of(node)) {
+            Some(member) => member.node.floor().get(),
+            None => 0,
+        }
     }
 
     /// Delivers the oldest packet that is under way. Returns whether there was one.

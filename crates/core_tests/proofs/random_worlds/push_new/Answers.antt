@@ -1,7 +1,7 @@
 use Rattle.std.proofs.Common.{◌≡◌, ◌∷◌, [], ◌++◌, sym, subst, rules}
 use Rattle.core_tests.proofs.Machines.{new_more}
 use Rattle.core_tests.specs.Machines.{AllNew}
-use Rattle.core_tests.proofs.rescue.push_new.Goals as goal
+use Rattle.core_tests.proofs.random_worlds.push_new.Goals as goal
 
 pub returns-clause-new : goal.returns-clause-new
 returns-clause-new g c = λ a.
