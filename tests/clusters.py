@@ -42,7 +42,7 @@ ANSWER = bytes([0x7F, 0xB1, 0, 0])
 REFUSAL = bytes([0x7F, 0x40, 0, 0])
 # What may wait for a client at its node: octets, and then messages.
 OCTETS_WAITING = 16 << 20
-SAYINGS_WAITING = 4096
+SAYINGS_WAITING = 8192
 ROLES = {"publisher": {}, "subscriber": {}, "caller": {}, "callee": {}}
 
 
