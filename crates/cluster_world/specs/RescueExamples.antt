@@ -10,13 +10,13 @@ use Rattle.cluster_world.specs.Helpers.{seat_at, helpers_of}
 use Rattle.cluster_world.specs.Scripts.{Line, Happens, Packet_no, Flush}
 use Rattle.cluster_world.specs.World.{World, play}
 
--- behind a cut that lacks its boot
+-- the log of node 3 ends below a cut that lacks its boot
 abbrev pub behind_a_cut : List (Line ℕ)
 behind_a_cut =
     Happens (Crash 3) ∷ Happens (Start 1) ∷ Flush (nodes (1 ∷ 2 ∷ 3 ∷ [])) ∷ Happens (Take 1 1 10) ∷
     Flush (nodes (1 ∷ 2 ∷ 3 ∷ [])) ∷ Happens (Cut 1 None) ∷ Happens (Cut 2 None) ∷ Happens (Restart 3) ∷ []
 
--- behind a cut that has its boot
+-- the log of node 3 ends below a cut that has its boot
 abbrev pub behind_own_boot : List (Line ℕ)
 behind_own_boot =
     Happens (Start 1) ∷ Flush (nodes (1 ∷ 2 ∷ 3 ∷ [])) ∷ Happens (Tick 3) ∷ Flush (nodes (1 ∷ 2 ∷ 3 ∷ [])) ∷

@@ -1,7 +1,7 @@
 -- The places of a run after a floor and those ahead of it: where an entry is found, where one is put, and which slots have a place.
 use Rattle.std.proofs.Common.{◌≡◌, ℕ, zero, suc, ◌+◌, ◌<◌, ◌≤◌, Bool, true, false, cond, ◌||◌, Option, Some, None, List, [], ◌∷◌, ◌++◌}
-use Rattle.std.proofs.Common.{Ordering, Less, Equal, Greater, length, get_or, set, ltb, eqb, refl, ap, sym, ◌∙◌, subst, lt-ltb, eq-eqb, arith, is_some}
-use Rattle.std.proofs.lemmas.Bool.{ltb-true, eqb-true}
+use Rattle.std.proofs.Common.{Ordering, Less, Equal, Greater, length, get_or, set, ltb, eqb, refl, ap, sym, ◌∙◌, subst, lt-ltb, eq-eqb, arith, is_some, ◌⊎◌, inl, inr}
+use Rattle.std.proofs.lemmas.Bool.{ltb-true, eqb-true, cases_lt}
 use Rattle.std.proofs.lemmas.Bool.Decides.{nat_tests}
 use Rattle.std.specs.Ordering.{nat_cmp, is_eq, match_ordering}
 use Rattle.std.specs.Prelude.{option_map, ◌==◌, ◌^◌, nat_le}
@@ -29,6 +29,10 @@ not_lt a b h = grind (arith, nat_tests)
 pub lower : {X : Type 0} (m n : ℕ) (ps : List (ℕ × X)) → m ≤ n → AreRising n ps → AreRising m ps
 lower m n [] l a = let k : n < 2 ^ 40 = a in omega arith
 lower m n (p ∷ ps) l a = let k : n < p.0 = a.0 in (omega arith, a.1)
+
+pub ends : {X : Type 0} (n : ℕ) (ps : List (ℕ × X)) → AreRising n ps → n < 2 ^ 40
+ends n [] a = a
+ends n (p ∷ ps) a = let k : n < p.0 = a.0 in let m : p.0 < 2 ^ 40 = ends p.0 ps a.1 in omega arith
 
 pub rising_put : {X : Type 0} (n slot : ℕ) (x : X) (ps : List (ℕ × X)) → n < slot → slot < 2 ^ 40 → AreRising n ps
     → AreRising n (insert_entry nat_cmp ps slot x)
@@ -198,6 +202,15 @@ pub past_run : {B : Type 0} (floor slot : ℕ) (run : List (Option (Entry B))) (
 past_run floor slot run ps l a =
     sym (in_ahead slot (floor + length run) ps a) ∙ ap option_flatten (sym (look_behind (suc floor) slot run ps l))
     ∙ in_ahead slot floor (all_places floor run ps) (whole_rises floor run ps a)
+
+pub outside_run : {B : Type 0} (floor slot : ℕ) (run : List (Option (Entry B))) (ps : Places B) → (floor < slot → suc floor + length run ≤ slot)
+    → AreRising (floor + length run) ps → learned_at slot (placed ps) ≡ learned_at slot (placed (all_places floor run ps))
+outside_run {B} floor slot run ps past a = go (cases_lt floor slot)
+  where
+    go : (floor < slot) ⊎ (slot ≤ floor) → learned_at slot (placed ps) ≡ learned_at slot (placed (all_places floor run ps))
+    go (inl l) = past_run floor slot run ps (past l) a
+    go (inr l) =
+        sym (none_at slot (floor + length run) ps (omega arith) a) ∙ none_at slot floor (all_places floor run ps) l (whole_rises floor run ps a)
 
 -- the run goes on by a place
 

@@ -11,6 +11,7 @@ use Rattle.paxos_packets.specs.declared.entry.Entry.{Entry}
 use Rattle.paxos_learner.specs.declared.learned.LearnedEntry.{LearnedEntry}
 use Rattle.paxos_learner.specs.Learned.{placed, placed_in, places_from, all_places, AreRising, is_learned, has_place, KeepsPlaces}
 use Rattle.paxos_learner.specs.Learned.{learned_above, slots_above, numbered, Rises, Begins}
+use Rattle.paxos_learner.proofs.Ahead.{ends}
 
 -- the places above a floor
 abbrev pub places_above : {X : Type 0} → ℕ → List (ℕ × X) → List (ℕ × X)
@@ -64,10 +65,6 @@ whole_above {B} old count floor run ps p =
     ∙ sym (filter-append (λ (q : ℕ × Option (Entry B)). nat_lt floor q.0) (places_from (suc old) run) ps)
 
 -- they rise from the floor on
-
-ends : {X : Type 0} (n : ℕ) (ps : List (ℕ × X)) → AreRising n ps → n < 2 ^ 40
-ends n [] a = a
-ends n (p ∷ ps) a = let k : n < p.0 = a.0 in let m : p.0 < 2 ^ 40 = ends p.0 ps a.1 in omega arith
 
 rising_above : {X : Type 0} (k n floor : ℕ) (ps : List (ℕ × X)) → (k ≤ n) ⊎ (k ≤ floor) → k < 2 ^ 40 → AreRising n ps
     → AreRising k (places_above floor ps)

@@ -90,11 +90,9 @@ impl<B> LearnedEntries<B> {
         ensures { option_copied result ≡ learned_at slot self.now.learned }
     {
         let number = slot.get();
-        let floor = self.floor.get();
-        if number <= floor {
-            return None;
-        }
-        match self.run.get((number - floor) as usize - 1) {
+        // For a closed slot this wraps to an index far past the run; nothing is found ahead of it either.
+        let index = number.wrapping_sub(self.floor.get() + 1);
+        match self.run.get(index as usize) {
             Some(place) => place.as_ref(),
             None => find_ahead(&self.ahead, number),
         }

@@ -76,6 +76,13 @@ impl<B> Learner<B> {
         self.learned.find(slot)
     }
 
+    /// Shows that what was learned ascends by slot, from above the floor: a call for proofs, which does nothing. Does not allocate.
+    pub fn ascends(&self)
+        ensures { Rises self.now.state.learner.floor self.now.state.learner.learned }
+    {
+        self.learned.ascends();
+    }
+
     /// Returns whether a vote of the member in this ballot and slot makes a majority there. Does not allocate.
     pub fn makes_majority(&self, node: u8, ballot: Ballot, slot: Slot) -> bool
         ensures { result ≡ makes_majority self.now.state.members node ballot slot self.now.state.learner }
@@ -87,13 +94,6 @@ impl<B> Learner<B> {
 }
 
 impl<B> Learner<B> {
-    // What was learned ascends by slot, from above the floor.
-    pub(crate) fn ascends(&self)
-        ensures { Rises self.now.state.learner.floor self.now.state.learner.learned }
-    {
-        self.learned.ascends();
-    }
-
     // Returns the members that were heard to have voted there.
     pub(crate) fn nodes(&self, place: &SlotBallot) -> NodeSet
         ensures { result ≡ nodes_heard place.now self.now.state.learner.heard }

@@ -1,15 +1,13 @@
 -- A node to whose parts an outcome's moves are done is the one that adopts the outcome.
 use Rattle.std.proofs.Common.{◌≡◌, ℕ, suc, ◌+◌, ◌<◌, ◌≤◌, ◌^◌, Bool, true, false, cond, Option, Some, None, List, [], ◌∷◌, ◌++◌, map, length}
 use Rattle.std.proofs.Common.{refl, ap, sym, ◌∙◌, subst, arith}
-use Rattle.std.specs.Prelude.{filter}
 use Rattle.paxos_packets.specs.Snapshot.{Snapshot}
 use Rattle.paxos_packets.specs.declared.entry.Entry.{Entry}
 use Rattle.paxos_packets.specs.declared.rows.Change.{Change}
 use Rattle.paxos_acceptor.specs.Acceptor as accepting
 use Rattle.paxos_learner.specs.declared.learned.LearnedEntry.{LearnedEntry}
 use Rattle.paxos_learner.specs.Learned.{Begins}
-use Rattle.paxos_learner.specs.Learner.{forget, KeepsRoom}
-use Rattle.replica_machine.specs.Roll.{is_wanted_by}
+use Rattle.paxos_learner.specs.Learner.{KeepsRoom}
 use Rattle.paxos_learner.proofs.Beginning.{entries_are}
 use Rattle.paxos_learner.proofs.Keeping.{kept_places}
 use Rattle.paxos_proposer.specs.Moves.{promises_in, proposals_in}
@@ -17,7 +15,7 @@ use Rattle.paxos_proposer.specs.State as proposing
 use Rattle.paxos_node.specs.declared.outcome.Outcome.{Outcome}
 use Rattle.paxos_planning.specs.Front.{IsFront}
 use Rattle.paxos_planning.specs.Node.{NodeState, log_length}
-use Rattle.paxos_node.specs.Applying.{stands_at, down}
+use Rattle.paxos_node.specs.Applying.{down}
 use Rattle.paxos_node.specs.Held.{Room, Held, learner_in, additions, HasRoom, CanGoOn}
 use Rattle.paxos_node.specs.Adopting.{Fits, rested, committed, moved_on, stays_up, adopted}
 use Rattle.paxos_planning.specs.Parts.{first_learned}
@@ -110,44 +108,12 @@ module _ {B : Type 0} (o : Outcome B) (x : NodeState B) where
       whole : k ≡ now
       whole = λ i. record k { me = p i; members = q i; state = r i }
 
--- the change is committed: with no snapshot, and with one
+-- the change has a snapshot
 
 module _ {B : Type 0} (over : Bool) (change : Change B) (x : NodeState B) where
-  pub committed_none : change.snapshot ≡ None → record x { rows = accepting.adopted x.rows change } ≡ committed over change x
-  committed_none p = λ i. record (rested over (sym p i) x) { rows = accepting.adopted x.rows change; proposer = x.proposer }
-
-  pub committed_some : (s : Snapshot) → change.snapshot ≡ Some s
-      → record x {
-        rows = accepting.adopted x.rows change;
-        learner = forget s.floor x.learner;
-        applied = [];
-        pending = cond over (filter (is_wanted_by (stands_at (Some s))) x.pending) x.pending;
-      }
-      ≡ committed over change x
-  committed_some s p =
-      go over ∙ (λ i. record (rested over (sym p i) x) { rows = accepting.adopted x.rows change; proposer = x.proposer })
-    where
-      go : (b : Bool)
-          → record x {
-            rows = accepting.adopted x.rows change;
-            learner = forget s.floor x.learner;
-            applied = [];
-            pending = cond b (filter (is_wanted_by (stands_at (Some s))) x.pending) x.pending;
-          }
-          ≡ record (rested b (Some s) x) { rows = accepting.adopted x.rows change; proposer = x.proposer }
-      go true = refl
-      go false = refl
-
   pub rests_at : (s : Snapshot) → change.snapshot ≡ Some s → log_length (rested over change.snapshot x) < 2 ^ 40 → s.floor + 0 < 2 ^ 40
   rests_at s p l = go over (subst (λ (o : Option Snapshot). log_length (rested over o x) < 2 ^ 40) p l)
     where
       go : (b : Bool) → log_length (rested b (Some s) x) < 2 ^ 40 → s.floor + 0 < 2 ^ 40
-      go true k = k
-      go false k = k
-
-  pub rises_to : (s : Snapshot) → change.snapshot ≡ Some s → x.learner.floor ≤ (rested over change.snapshot x).learner.floor → x.learner.floor ≤ s.floor
-  rises_to s p l = go over (subst (λ (o : Option Snapshot). x.learner.floor ≤ (rested over o x).learner.floor) p l)
-    where
-      go : (b : Bool) → x.learner.floor ≤ (rested b (Some s) x).learner.floor → x.learner.floor ≤ s.floor
       go true k = k
       go false k = k

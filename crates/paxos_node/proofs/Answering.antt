@@ -27,7 +27,7 @@ use Rattle.paxos_node.specs.Applying.{standing_of, settle}
 use Rattle.paxos_node.specs.Adopting.{pending_behind, Fits, Settled}
 use Rattle.paxos_planning.specs.Drafting.{with_pending_entry, seeing}
 use Rattle.paxos_node.specs.Events.{last_number, owner, possible, deliver, on_event, takes, new_item, with_item, on_take, has_room}
-use Rattle.paxos_node.specs.Snapshots.{is_head_of, may_cut, on_cut, rest_on, has_boot, take_in, on_snapshot}
+use Rattle.paxos_node.specs.Snapshots.{is_head_of, may_cut, on_cut, rest_on, has_boot, lacks_boot, take_in, on_snapshot, is_damaged, is_new, new_snapshot}
 use Rattle.paxos_node.proofs.Ending.{settled_disagrees}
 use Rattle.paxos_planning.specs.Ticking.{on_tick}
 use Rattle.paxos_planning.specs.Starting.{starts, begin, on_start}
@@ -265,39 +265,33 @@ seen_nothing {B} x = λ i. begun (record x { proposer = record { role = x.propos
     none_more : (n : ℕ) → max n 0 ≡ n
     none_more n = omega arith
 
-module _ {B : Type 0} (me members : ℕ) (x : NodeState B) (s : taken.Snapshot) (r : Result (Outcome B) NodeFault) where
-  -- it gives no more than the node's log
-  pub shorter_answered : s.floor ≤ log_length x → Answered me members x false false (seeing 0 (begun x)) r
-      → Answered me members x false false (on_snapshot me s (seeing 0 (begun x))) r
-  shorter_answered l a =
-      subst (λ (b : Bool). Answered me members x false false (cond b (seeing 0 (begun x)) (take_in me s (head_at s.octets) (seeing 0 (begun x)))) r)
-      (sym (le-leb s.floor (log_length x) l)) a
+-- a new snapshot that comes in a packet: octets that begin with no head disagree, and the node rests on any other
 
-  -- it gives more
-  pub longer_answered : log_length x < s.floor → (head : Option Head) → head_at s.octets ≡ head
-      → Answered me members x false false (take_in me s head (seeing 0 (begun x))) r
-      → Answered me members x false false (on_snapshot me s (seeing 0 (begun x))) r
-  longer_answered l head p a =
-      subst (λ (b : Bool). Answered me members x false false (cond b (seeing 0 (begun x)) (take_in me s (head_at s.octets) (seeing 0 (begun x)))) r)
-      (sym (not_le s.floor (log_length x) l))
-      (subst (λ (h : Option Head). Answered me members x false false (take_in me s h (seeing 0 (begun x))) r) (sym p) a)
+module _ {B : Type 0} (me members : ℕ) (x : NodeState B) (s : taken.Snapshot) where
+  pub damaged_answered : is_damaged s x ≡ true → Answered me members x false false (on_snapshot me s (seeing 0 (begun x))) (Err Disagree)
+  damaged_answered d = (refl, refl, settled_disagrees me (on_snapshot me s (seeing 0 (begun x))) ∙ go (nat_le s.floor (log_length x)) (head_at s.octets) d)
+    where
+      go : (b : Bool) (h : Option Head) → (not b && is_none h) ≡ true
+          → (cond b (seeing 0 (begun x)) (take_in me s h (seeing 0 (begun x)))).disagrees ≡ true
+      go true h d = absurd (cc)
+      go false None d = refl
+      go false (Some head) d = absurd (cc)
 
-  pub kept_answered : (head : Head) → has_boot me x head ≡ true → Answered me members x false false (seeing 0 (begun x)) r
-      → Answered me members x false false (take_in me s (Some head) (seeing 0 (begun x))) r
-  kept_answered head h a =
-      subst (λ (b : Bool). Answered me members x false false (cond b (seeing 0 (begun x)) (rest_on true s (seeing 0 (begun x)))) r) (sym h) a
+  pub taken_answered : (r : Result (Outcome B) NodeFault) → is_new me s x ≡ true → is_damaged s x ≡ false
+      → Answered me members x false false (rest_on true s (begun x)) r → Answered me members x false false (on_snapshot me s (seeing 0 (begun x))) r
+  taken_answered r new whole a =
+      subst (λ (t : Plan B). Answered me members x false false t r)
+      (ap (λ (t : Plan B). rest_on true s t) (sym (seen_nothing x)) ∙ go (nat_le s.floor (log_length x)) (head_at s.octets) new whole) a
+    where
+      by : (head : Head) (k : Bool) → not k ≡ true → rest_on true s (seeing 0 (begun x)) ≡ cond k (seeing 0 (begun x)) (rest_on true s (seeing 0 (begun x)))
+      by head true p = absurd (cc)
+      by head false p = refl
 
-  pub taken_answered : (head : Head) → has_boot me x head ≡ false → Answered me members x false false (rest_on true s (begun x)) r
-      → Answered me members x false false (take_in me s (Some head) (seeing 0 (begun x))) r
-  taken_answered head h a =
-      subst (λ (b : Bool). Answered me members x false false (cond b (seeing 0 (begun x)) (rest_on true s (seeing 0 (begun x)))) r) (sym h)
-      (subst (λ (t : Plan B). Answered me members x false false (rest_on true s t) r) (sym (seen_nothing x)) a)
-
--- octets that begin with no head disagree
-
-pub damaged_answered : {B : Type 0} (me members : ℕ) (x : NodeState B) (s : taken.Snapshot)
-    → Answered me members x false false (take_in me s None (seeing 0 (begun x))) (Err Disagree)
-damaged_answered me members x s = (refl, refl, settled_disagrees me (take_in me s None (seeing 0 (begun x))))
+      go : (b : Bool) (h : Option Head) → (not b && lacks_boot me x h) ≡ true → (not b && is_none h) ≡ false
+          → rest_on true s (seeing 0 (begun x)) ≡ cond b (seeing 0 (begun x)) (take_in me s h (seeing 0 (begun x)))
+      go true h new whole = absurd (cc)
+      go false None new whole = absurd (cc)
+      go false (Some head) new whole = by head (has_boot me x head) new
 
 -- a cut names no refusal, and disagrees with nothing
 
@@ -325,12 +319,33 @@ pub nothing_ok : {A : Type 0} (r : Result A NodeFault) (y : A) → r ≡ Ok y �
 nothing_ok (Ok z) y p = cc
 nothing_ok (Err f) y p = tt
 
--- a packet that is no snapshot is planned on a draft
+-- a packet with no new snapshot is planned on a draft
 
-pub is_drafted : {B : Type 0} (same : B → B → Bool) (members me from : ℕ) (k : Kind B) (o : Plan B)
-    → ((s : taken.Snapshot) → ◌≡◌ {A = Kind B} k (Shown s) → ⊥) → on_packet same members me from k o ≡ deliver same members me from k o
-is_drafted same members me from (Shown s) o f = absurd (f s refl)
-is_drafted same members me from _ o f = refl
+module _ {B : Type 0} (me : ℕ) (x : NodeState B) where
+  pub is_drafted : (same : B → B → Bool) (members from : ℕ) (k : Kind B) → new_snapshot me k x ≡ None
+      → on_packet same members me from k (seeing (round_in k) (begun x)) ≡ deliver same members me from k (seeing (round_in k) (begun x))
+  is_drafted same members from (Shown s) p = go (nat_le s.floor (log_length x)) (head_at s.octets) p
+    where
+      by : (k : Bool) → ◌≡◌ {A = Option taken.Snapshot} (cond (not k) (Some s) None) None
+          → seeing 0 (begun x) ≡ cond k (seeing 0 (begun x)) (rest_on true s (seeing 0 (begun x)))
+      by true p = refl
+      by false p = absurd (cc)
+
+      go : (b : Bool) (h : Option Head) → ◌≡◌ {A = Option taken.Snapshot} (cond (not b && lacks_boot me x h) (Some s) None) None
+          → seeing 0 (begun x) ≡ cond b (seeing 0 (begun x)) (take_in me s h (seeing 0 (begun x)))
+      go true h p = refl
+      go false None p = absurd (cc)
+      go false (Some head) p = by (has_boot me x head) p
+  is_drafted same members from _ p = refl
+
+  pub shows_new : (k : Kind B) (s : taken.Snapshot) → new_snapshot me k x ≡ Some s → (◌≡◌ {A = Kind B} k (Shown s)) × (is_new me s x ≡ true)
+  shows_new (Shown t) s p = go (is_new me t x) refl p
+    where
+      go : (b : Bool) → is_new me t x ≡ b → ◌≡◌ {A = Option taken.Snapshot} (cond b (Some t) None) (Some s)
+          → (◌≡◌ {A = Kind B} (Shown t) (Shown s)) × (is_new me s x ≡ true)
+      go true e p = (cc, subst (λ (u : taken.Snapshot). is_new me u x ≡ true) (cc) e)
+      go false e p = absurd (cc)
+  shows_new _ s p = absurd (cc)
 
 pub is_brought : {B : Type 0} (same : B → B → Bool) (members me from : ℕ) (k : Kind B) (x : NodeState B)
     → ((s : taken.Snapshot) → ◌≡◌ {A = Kind B} k (Shown s) → ⊥) → brings_other same members me from k x ≡ delivers_other same members me from k x

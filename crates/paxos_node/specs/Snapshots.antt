@@ -4,6 +4,8 @@ use Rattle.std.specs.Prelude.{ℕ, Bool, true, false, not, ◌&&◌, ◌==◌, n
 use Rattle.std.specs.Prelude.{length, if◌then◌else◌}
 use Rattle.std.specs.Cmp.Lexicographic.{pointwise}
 use Rattle.paxos_packets.specs.Snapshot.{Snapshot}
+use Rattle.paxos_packets.specs.declared.packet.Kind.{Kind}
+use Rattle.paxos_packets.specs.declared.packet.Kind.TheVariants.{Snapshot as Shown}
 use Rattle.paxos_acceptor.specs.Acceptor.{with_snapshot}
 use Rattle.paxos_proposer.specs.Proposer.{raised_above}
 use Rattle.paxos_learner.specs.Learner.{forget}
@@ -73,6 +75,20 @@ take_in me s (Some head) o = if has_boot me o.node head then o else rest_on true
 -- a snapshot that comes in a packet: one that gives no more than the node's log changes nothing
 abbrev pub on_snapshot : {B : Type 0} → ℕ → Snapshot → Plan B → Plan B
 on_snapshot me s o = if nat_le s.floor (log_length o.node) then o else take_in me s (head_at s.octets) o
+
+-- its head, if it has one, does not have the node's present boot
+abbrev pub lacks_boot : {B : Type 0} → ℕ → NodeState B → Option Head → Bool
+lacks_boot me x None = true
+lacks_boot me x (Some head) = not (has_boot me x head)
+
+-- it is new: it gives more, and does not have the node's present boot
+abbrev pub is_new : {B : Type 0} → ℕ → Snapshot → NodeState B → Bool
+is_new me s x = not (nat_le s.floor (log_length x)) && lacks_boot me x (head_at s.octets)
+
+-- the snapshot of a packet, if it is new
+abbrev pub new_snapshot : {B : Type 0} → ℕ → Kind B → NodeState B → Option Snapshot
+new_snapshot me (Shown s) x = if is_new me s x then Some s else None
+new_snapshot me _ x = None
 
 -- it gives more, and its octets begin with no head
 abbrev pub is_damaged : {B : Type 0} → Snapshot → NodeState B → Bool

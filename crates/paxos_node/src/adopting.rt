@@ -112,19 +112,17 @@ impl<B: Body> Node<B> {
         ensures places { KeepsRoom (learner_in self.old) (learner_in self.new) }
         ensures pending { self.old.room.pending ≤ self.new.room.pending }
     {
-        let Some(snapshot) = &change.snapshot else {
-            self.acceptor.adopt_in_room(change);
-            return;
-        };
-        rest(
-            &mut self.learner,
-            &mut self.roll,
-            &mut self.pending,
-            snapshot,
-            over,
-        );
-        self.applied = 0;
-        self.front = 0;
+        if let Some(snapshot) = &change.snapshot {
+            rest(
+                &mut self.learner,
+                &mut self.roll,
+                &mut self.pending,
+                snapshot,
+                over,
+            );
+            self.applied = 0;
+            self.front = 0;
+        }
         self.acceptor.adopt_in_room(change);
     }
 

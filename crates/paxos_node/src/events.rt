@@ -14,7 +14,7 @@ ghost use Rattle.paxos_node.specs.Events.{is_round_refused, is_full_refused, mad
 ghost use Rattle.paxos_node.specs.Plans.{is_planned, plans, unchanged, finds_other, delivers_other, takes_other, suspects_other, is_memory};
 ghost use Rattle.paxos_node.specs.Plans.{Answers, Answered};
 ghost use Rattle.paxos_planning.specs.Proposals.{push};
-ghost use Rattle.paxos_planning.specs.Replies.{on_packet, round_in};
+ghost use Rattle.paxos_planning.specs.Replies.{round_in};
 ghost use Rattle.paxos_planning.specs.Plan.{begun};
 ghost use Rattle.replica_machine.specs.Roll.{live_in};
 
@@ -327,20 +327,9 @@ impl<B: Body> Node<B> {
             (seeing (round_in packet.now.kind) (begun self.now.state))) result }
         ensures added { IfOk result (λ outcome. outcome.moves.added ≡ None) }
     {
-        match &packet.kind {
-            Kind::Snapshot { snapshot } => self.plan_snapshot(packet, snapshot),
-            _ => self.plan_drafted(packet),
+        if let Some(snapshot) = self.new_snapshot(&packet.kind) {
+            return self.plan_snapshot(snapshot);
         }
-    }
-
-    // Plans what the packet does but for a snapshot that the node rests on.
-    pub(crate) fn plan_drafted(&self, packet: &Packet<B>) -> Result<Outcome<B>, NodeFault>
-        requires { self.now.state.up ≡ true }
-        ensures answered { Answered self.now.me self.now.members self.now.state false false
-            (on_packet B.same self.now.members self.now.me packet.now.sender packet.now.kind
-            (seeing (round_in packet.now.kind) (begun self.now.state))) result }
-        ensures added { IfOk result (λ outcome. outcome.moves.added ≡ None) }
-    {
         let mut draft = self.draft(None);
         let done = draft.on_packet(packet.sender, &packet.kind);
         self.finish(draft, done)

@@ -23,5 +23,5 @@ pub use outcome::Outcome;
 pub use packets::Packets;
 pub use paxos_packets::{Ballot, Body, Change, Entries, Entry, Members, Packet, Rows, Vote, Votes};
 pub use replica_machine::Roll;
-pub use snapshots::roll_at;
+pub use snapshots::{boot_in, roll_at};
 pub use view::{NodeView, Opened};

@@ -2,10 +2,8 @@
 
 ghost use Rattle.std.specs.Prelude.{◌≡◌, ◌≤◌, ◌-◌, suc, true, false, Some, None, [], ◌∷◌, IfOk, IsOkUnless, option_copied, filter, vec_len, vec_capacity, if◌then◌else◌};
 ghost use Rattle.paxos_packets.specs.Snapshot.{snapshot_of};
-ghost use Rattle.paxos_packets.specs.declared.packet.Kind.TheVariants.{Snapshot as Shown};
 ghost use Rattle.paxos_planning.specs.Drafting.{seeing};
 ghost use Rattle.paxos_proposer.specs.declared.moves.Move.TheVariants.{Raised};
-ghost use Rattle.paxos_learner.specs.Learned.{Rises};
 ghost use Rattle.paxos_learner.specs.Learner.{forgot, run_from, KeepsRoom};
 ghost use Rattle.replica_machine.specs.Roll.{HasStandings, is_wanted_by};
 ghost use Rattle.paxos_planning.specs.Node.{log_length};
@@ -15,16 +13,15 @@ ghost use Rattle.paxos_node.specs.declared.fault.NodeFault.TheVariants.{Memory a
 ghost use Rattle.paxos_node.specs.Adopting.{Fits, Planned, Settled};
 ghost use Rattle.paxos_node.specs.Applying.{stands_at, stands_by};
 ghost use Rattle.paxos_node.specs.Plans.{Answered, plans, unchanged};
-ghost use Rattle.paxos_node.specs.Snapshots.{boot_in, has_boot, is_damaged, is_head_of, may_cut, on_cut, on_snapshot, rest_on};
+ghost use Rattle.paxos_node.specs.Snapshots.{boot_in, has_boot, is_damaged, is_head_of, is_new, may_cut, on_cut, on_snapshot, rest_on, new_snapshot};
 
 use crate::event::Event;
 use crate::fault::NodeFault;
 use crate::node::Node;
 use crate::outcome::Outcome;
 use crate::settling::{first_of, log_behind, until_lost};
-use crate::waiting::keep_wanted;
-use paxos_learner::{Hearing, Learner, News};
-use paxos_packets::{Body, Entries, Entry, Floor, Memory, Packet, Slot, Snapshot};
+use paxos_learner::{Learner, News};
+use paxos_packets::{Body, Entries, Entry, Floor, Kind, Memory, Slot, Snapshot};
 use paxos_proposer::Move;
 use replica_machine::{Head, Roll, Standing};
 use std::alloc::Global;
@@ -105,26 +102,39 @@ impl<B: Body> Node<B> {
         }
     }
 
-    // Plans what the snapshot of a packet does: it is taken if it gives more than the node's log, and does not have its present boot.
-    pub(crate) fn plan_snapshot(
-        &self,
-        packet: &Packet<B>,
-        snapshot: &Snapshot,
-    ) -> Result<Outcome<B>, NodeFault>
+    // Returns the snapshot of a packet, if it is new.
+    pub(crate) fn new_snapshot<'a>(&self, kind: &'a Kind<B>) -> Option<&'a Snapshot>
+        ensures { option_copied result ≡ new_snapshot self.now.me kind.now self.now.state }
+    {
+        match kind {
+            Kind::Snapshot { snapshot } if self.is_new(snapshot) => Some(snapshot),
+            _ => None,
+        }
+    }
+
+    // Returns whether another's snapshot is new: it gives more than its log, and does not have its present boot.
+    fn is_new(&self, snapshot: &Snapshot) -> bool
+        ensures { result ≡ is_new self.now.me snapshot.now self.now.state }
+    {
+        if snapshot.floor().get() <= self.applied() {
+            return false;
+        }
+        match Head::read(snapshot.octets()) {
+            Some(head) => !self.has_boot(&head),
+            None => true,
+        }
+    }
+
+    // Plans what another's new snapshot does: it is taken, unless its octets begin with no head.
+    pub(crate) fn plan_snapshot(&self, snapshot: &Snapshot) -> Result<Outcome<B>, NodeFault>
         requires up { self.now.state.up ≡ true }
-        requires kind { packet.now.kind ≡ Shown snapshot.now }
+        requires new { is_new self.now.me snapshot.now self.now.state ≡ true }
         ensures answered { Answered self.now.me self.now.members self.now.state false false
             (on_snapshot self.now.me snapshot.now (seeing 0 (begun self.now.state))) result }
         ensures added { IfOk result (λ outcome. outcome.moves.added ≡ None) }
     {
-        if snapshot.floor().get() <= self.applied() {
-            return self.plan_drafted(packet);
-        }
-        let Some(head) = Head::read(snapshot.octets()) else {
+        if self.is_damaged(snapshot) {
             return Err(NodeFault::Disagree);
-        };
-        if self.has_boot(&head) {
-            return self.plan_drafted(packet);
         }
         self.plan_rest(snapshot, true)
     }
@@ -144,11 +154,11 @@ impl<B: Body> Node<B> {
         let Ok(moves) = raised(self.alloc(), snapshot.floor()) else {
             return Err(NodeFault::Memory);
         };
-        let hearing = Hearing::of(self.alloc(), self.learner());
-        let Ok(run) = hearing.run_after(snapshot.floor().get()) else {
+        let Ok(run) = self.run_after(Floor::at(snapshot.floor())) else {
             return Err(NodeFault::Memory);
         };
-        Ok(self.rested(held, over, moves, hearing.into_news(), run))
+        let news = Vec::new(self.alloc());
+        Ok(self.rested(held, over, moves, news, run))
     }
 
     // Returns what it makes of the node to rest on the snapshot, given what is to be applied then.
@@ -164,12 +174,12 @@ impl<B: Body> Node<B> {
         requires more { log_length self.now.state ≤ snapshot.floor }
         requires moves { moves.items ≡ Raised snapshot.floor ∷ [] }
         requires news { news.items ≡ [] }
-        requires rises { Rises self.now.state.learner.floor self.now.state.learner.learned }
         requires run { run ≡ run_from (suc snapshot.floor) self.now.state.learner.learned }
         ensures settled { Settled self.now.me self.now.members self.now.state (rest_on over snapshot (begun self.now.state)) result }
         ensures added { result.moves.added ≡ None }
     {
         self.begins();
+        self.learner().ascends();
         let floor = snapshot.floor().get();
         let standing = standing_at(&snapshot, self.me());
         let (count, is_down) = until_lost(standing, self.me(), self.boot(), run.as_slice());
@@ -222,7 +232,7 @@ pub(crate) fn rest<B: Drop>(
     if !over {
         return;
     }
-    keep_wanted(roll, pending);
+    pending.retain(|entry| roll.wants(entry));
 }
 
 /// Returns where each node stands at the snapshot, by its head. Without a snapshot, or if its octets begin with no head, none is
@@ -253,8 +263,8 @@ fn stands_by(head: &Head, node: u8) -> Standing
     Roll::of(head.standings).standing(node)
 }
 
-// Returns the greatest boot of a node with this standing, or 0 for none.
-fn boot_in(standing: Standing) -> u64
+/// Returns the greatest boot of a node with this standing, or 0 for none. Does not allocate.
+pub fn boot_in(standing: Standing) -> u64
     ensures { result ≡ boot_in standing }
 {
     match standing {

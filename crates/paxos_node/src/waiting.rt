@@ -38,9 +38,8 @@ fn advance<B>(roll: &mut Roll, entry: &Entry<B>)
 }
 
 // Lets go of what is settled where the nodes stand so.
-pub(crate) fn keep_wanted<B: Drop>(roll: &Roll, pending: &mut Vec<Entry<B>>)
-    ensures room { vec_capacity pending.old - vec_len pending.old ≤ vec_capacity pending.new - vec_len pending.new }
-    ensures wanted { (stands : ℕ → Standing) → HasStandings stands roll.now
+fn keep_wanted<B: Drop>(roll: &Roll, pending: &mut Vec<Entry<B>>)
+    ensures { (stands : ℕ → Standing) → HasStandings stands roll.now
         → pending.new.items ≡ filter (is_wanted_by stands) pending.old.items }
 {
     pending.retain(|entry| roll.wants(entry));

@@ -1,7 +1,7 @@
 -- The parts of a course, one after the other, are the course.
 use Rattle.std.proofs.Common.{◌≡◌, ℕ, suc, ◌+◌, ◌<◌, ◌≤◌, ◌^◌, max, Bool, true, false, Option, Some, None, List, [], ◌∷◌, ◌++◌, length, refl, sym, ap, ◌∙◌, subst, arith, append_assoc}
 use Rattle.std.proofs.lemmas.Bool.{leb-true}
-use Rattle.std.specs.Prelude.{filter, if◌then◌else◌}
+use Rattle.std.specs.Prelude.{filter, fold, if◌then◌else◌}
 use Rattle.paxos_packets.specs.Snapshot.{Snapshot, floor_in}
 use Rattle.paxos_packets.specs.Vote.{put_votes, votes_from}
 use Rattle.paxos_packets.specs.declared.ballot.Ballot.{Ballot}
@@ -9,7 +9,7 @@ use Rattle.paxos_packets.specs.declared.entry.Entry.{Entry}
 use Rattle.paxos_packets.specs.declared.entry.Entry.TheVariants.{Boot}
 use Rattle.paxos_packets.specs.declared.vote.Vote.{Vote}
 use Rattle.paxos_proposer.specs.Proposals.{behind}
-use Rattle.paxos_proposer.specs.Proposer.{own_ballot}
+use Rattle.paxos_proposer.specs.Proposer.{own_ballot, resting}
 use Rattle.paxos_proposer.specs.Proposing.{proposals_of}
 use Rattle.paxos_proposer.specs.Role.{Role}
 use Rattle.paxos_proposer.specs.State.{State, begun, saw}
@@ -26,7 +26,7 @@ use Rattle.world_rescue.proofs.Listing.{joined}
 use Rattle.world_rescue.specs.Course.{Crew, Act, take, item_of, look, lead, led, pass, propose_new, entries_of, seen, ballot_after, first_role, first_votes}
 use Rattle.world_rescue.specs.Casting.{put_each_from}
 use Rattle.world_rescue.specs.Course.{first_pass, falls, length_then, goes_on, comes_back, level_course}
-use Rattle.world_rescue.specs.Course.{Seat, floor_of, votes_then, seen_then, fetch_by, fetch_again, source_again, seat_over, own_again, floor_again}
+use Rattle.world_rescue.specs.Course.{Seat, floor_of, votes_then, refused_round, seen_then, fetch_by, fetch_again, source_again, seat_over, own_again, floor_again}
 use Rattle.world_rescue.specs.Level.{Level, IsLevelOf, seat_by, crew_by, with_own}
 use Rattle.world_rescue.specs.Parts.{next_ballot, led_by, goes_on_from, role_again, comes_back_from}
 use Rattle.world_rescue.specs.Reaching.{Source, floor_or, highest}
@@ -47,6 +47,36 @@ least_round r = omega arith
 pub next_of : {B : Type 0} (n members r : ℕ) (s : State B) → s ≡ saw r (begun n members) → own_ballot n s.proposer ≡ record { round = suc r; node = n }
 next_of {B} n members r s p =
     ap (λ (z : ℕ). record { round = suc z; node = n }) (ap (λ (t : State B). t.proposer.seen) p ∙ least_round r)
+
+-- a proposer that saw this round begins the ballot after it, and once it saw the rounds that the helpers promised, it saw all that came before
+
+seen_more : {B : Type 0} (b : Ballot) (r : ℕ) (seats : List (Seat B)) → r ≤ fold (λ k s. max k (refused_round b s.node.rows.promised)) r seats
+seen_more b r [] = go r
+  where
+    go : (r : ℕ) → r ≤ r
+    go r = omega arith
+seen_more {B} b r (s ∷ ss) = go r (refused_round b s.node.rows.promised) _ (seen_more b (max r (refused_round b s.node.rows.promised)) ss)
+  where
+    go : (r k m : ℕ) → max r k ≤ m → r ≤ m
+    go r k m l = omega arith
+
+pub looked : {B : Type 0} (n members round : ℕ) (seats : List (Seat B)) (s t : State B) → s ≡ saw round (begun n members)
+    → t ≡ saw (seen_then (own_ballot n s.proposer) seats) s
+    → (own_ballot n s.proposer ≡ next_ballot n round) × (t ≡ saw (seen_then (next_ballot n round) seats) (begun n members))
+looked {B} n members round seats s t is now = (
+  ballot,
+  now ∙ (λ i. saw (seen_then (ballot i) seats) (is i))
+      ∙ ap at (go round (seen_then (next_ballot n round) seats) (seen_more (next_ballot n round) (suc round) seats)),
+)
+  where
+    ballot : own_ballot n s.proposer ≡ next_ballot n round
+    ballot = next_of n members round s is
+
+    at : ℕ → State B
+    at k = record { me = n; members = members; proposer = resting k }
+
+    go : (r k : ℕ) → suc r ≤ k → max (max 0 r) k ≡ max 0 k
+    go r k l = omega arith
 
 -- a node that rests on another's snapshot has its number and its votes
 

@@ -18,7 +18,7 @@ use Rattle.paxos_node.specs.declared.event.Event.{Event}
 use Rattle.paxos_node.specs.declared.event.Event.TheVariants.{Start, Crash, Restart}
 use Rattle.paxos_packets.specs.declared.packet.Kind.TheVariants as kinds
 use Rattle.paxos_node.specs.Events.{last_number}
-use Rattle.replica_machine.specs.Roll.{HasStandings, standings_from, is_wanted_by}
+use Rattle.replica_machine.specs.Roll.{is_wanted_by}
 use Rattle.world_rescue.specs.Course.{Crew, delivered}
 use Rattle.world_rescue.specs.Level.{Level, IsLevelOf, crew_by, with_own}
 use Rattle.world_rescue.specs.Reaching.{Source, preparing, learned_after, holds_boot, falls_after, goes_over, begins_over, node_over, turn_over, reach_by, reached_by, fetch}
@@ -75,16 +75,15 @@ all_low {B} low slot (v ∷ vs) l h = go (leb low v.slot) refl h (all_low low sl
 module _ {B : Type 0} (l : Level B) (n : ℕ) (x : NodeState B) where
   -- it goes on from the snapshot
   pub rides_is : (s : Snapshot) (run : List (Entry B)) → run ≡ learned_after s x → l.boot ≡ x.rows.boot → l.seen ≡ suc x.proposer.seen
-      → l.snapshot ≡ Some s → l.log ≡ s.floor + length run → HasStandings (standings_from (stands_at (Some s)) run) l.roll
+      → l.snapshot ≡ Some s → l.log ≡ s.floor + length run
       → l.pending ≡ pending_behind (stands_at (Some s)) run (filter (is_wanted_by (stands_at (Some s))) x.pending) → l.taken ≡ x.taken
       → IsLevelOf x.rows.votes l (goes_over s (preparing n x))
-  rides_is s run is boot seen snapshot log roll pending taken =
+  rides_is s run is boot seen snapshot log pending taken =
       record {
         boot = λ h. boot;
         seen = seen ∙ most x.proposer.seen;
         snapshot = snapshot;
         log = log ∙ ap (λ (es : List (Entry B)). s.floor + length es) is;
-        roll = subst (λ (es : List (Entry B)). HasStandings (standings_from (stands_at (Some s)) es) l.roll) is roll;
         pending = λ h. left;
         count = ap length left;
         taken = taken;
@@ -101,15 +100,14 @@ module _ {B : Type 0} (l : Level B) (n : ℕ) (x : NodeState B) where
 
   -- it begins its next boot on the snapshot
   pub begun_is : (s : Snapshot) → (x.rows.boot < 2 ^ 48 → l.boot ≡ suc x.rows.boot) → l.seen ≡ suc x.proposer.seen → l.snapshot ≡ Some s
-      → l.log ≡ s.floor → HasStandings (stands_at (Some s)) l.roll → l.pending ≡ Boot n l.boot ∷ [] → l.taken ≡ 0
+      → l.log ≡ s.floor → l.pending ≡ Boot n l.boot ∷ [] → l.taken ≡ 0
       → IsLevelOf x.rows.votes l (begins_over n s (preparing n x))
-  begun_is s boot seen snapshot log roll pending taken =
+  begun_is s boot seen snapshot log pending taken =
       record {
         boot = λ h. boot (up x.rows.boot (2 ^ 48) h);
         seen = seen;
         snapshot = snapshot;
         log = log ∙ none s.floor;
-        roll = roll;
         pending = λ h. pending ∙ ap (λ (k : ℕ). Boot n k ∷ []) (boot (up x.rows.boot (2 ^ 48) h));
         count = ap length pending;
         taken = taken;

@@ -16,6 +16,11 @@ pub on_ok : {A E P Q : Type 0} (r : Result A E) → (P → Q) → OnOk r P → O
 on_ok (Ok x) f h = f h
 on_ok (Err x) f h = h
 
+-- what holds whether it returned or not
+pub shown : {A E P : Type 0} (r : Result A E) → P → OnOk r P
+shown (Ok x) h = h
+shown (Err x) h = tt
+
 pub rest : {X : Type 0} (xs : List X) (i : ℕ) (x : X) → i < length xs → x ≡ get_or xs i x → drop i xs ≡ x ∷ drop (i + 1) xs
 rest xs i x l e = rw (add-one, drop-cons xs i x) (ap (λ y. y ∷ drop (suc i) xs) (sym e))
 

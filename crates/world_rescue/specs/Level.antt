@@ -6,18 +6,14 @@ use Rattle.paxos_packets.specs.declared.entry.Entry.{Entry}
 use Rattle.paxos_packets.specs.declared.vote.Vote.{Vote}
 use Rattle.paxos_proposer.specs.Proposer.{resting}
 use Rattle.paxos_planning.specs.Node.{NodeState, log_length}
-use Rattle.paxos_node.specs.Applying.{standing_of}
-use Rattle.replica_machine.specs.declared.roll.Standing.{Standing}
-use Rattle.replica_machine.specs.Roll.{HasStandings}
 use Rattle.world_rescue.specs.Seats.{Seat, Crew}
 
 pub record Level (B : Type 0) : Type 0 where
   pub boot : ℕ
   pub seen : ℕ
   pub snapshot : Option Snapshot
-  -- the length of its log, and where each node stands after it
+  -- the length of its log
   pub log : ℕ
-  pub roll : List Standing
   pub pending : List (Entry B)
   pub taken : ℕ
 
@@ -28,7 +24,6 @@ pub record IsLevelOf {B : Type 0} (cast : List (Vote B)) (l : Level B) (x : Node
   pub seen : l.seen ≡ x.proposer.seen
   pub snapshot : l.snapshot ≡ x.rows.snapshot
   pub log : l.log ≡ log_length x
-  pub roll : HasStandings (standing_of x) l.roll
   pub pending : x.rows.boot ≤ 2 ^ 48 → l.pending ≡ x.pending
   pub count : length l.pending ≡ length x.pending
   pub taken : l.taken ≡ x.taken

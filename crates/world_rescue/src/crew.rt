@@ -1,6 +1,7 @@
 //! The crew of a rescue, and the course of events by which its node applies an act.
 
 ghost use Rattle.std.specs.Prelude.{◌≡◌, ◌<◌, ◌≤◌, ◌^◌, ℕ, suc, option_copied, true, ◌++◌, ◌∷◌, [], filter, map, IfOk, OnOk, IsOkUnless};
+ghost use Rattle.paxos_node.specs.Applying.{standing_of};
 ghost use Rattle.paxos_node.specs.Events.{last_number};
 ghost use Rattle.paxos_packets.specs.Rows.{last_boot};
 ghost use Rattle.paxos_packets.specs.Snapshot.{floor_in};
@@ -17,7 +18,7 @@ ghost use Rattle.replica_machine.specs.Roll.{HasStandings, is_wanted_by};
 ghost use Rattle.world_rescue.specs.Course.{act, seat_of, look, seen_then, lead, led, pass, propose_new, take, course};
 ghost use Rattle.world_rescue.specs.Course.{level_course, fetch_again, own_again, floor_again};
 ghost use Rattle.world_rescue.specs.Level.{IsLevelOf, seat_by, crew_by, with_own};
-ghost use Rattle.world_rescue.specs.Parts.{crew_of, next_ballot, goes_on_from, comes_back_from};
+ghost use Rattle.world_rescue.specs.Parts.{crew_of, goes_on_from, comes_back_from};
 ghost use Rattle.world_rescue.specs.Reaching.{reached};
 ghost use Rattle.world_rescue.specs.Room.{has_slots, IsUpTo, LeavesRoom};
 ghost use Rattle.world_rescue.specs.declared.fault.CourseFault.TheVariants as fault;
@@ -89,36 +90,38 @@ impl<'a, B: Body> Crew<'a, B> {
             OnOk result (events.new.items ≡ events.old.items ++ course B.same self.now (act number body.now)) }
         ensures room { (round slot most : ℕ) → IsUpTo round slot most (reached self.now) → LeavesRoom round slot most → IsOkUnless result fault.Memory }
     {
-        let level = reach(self.alloc, events, self.own, self.helpers)?;
-        let done = self.level_course(events, &level, number, body);
+        let mut roll = self.own.roll().copy();
+        let level = reach(self.alloc, events, &mut roll, self.own, self.helpers)?;
+        let done = self.level_course(events, &level, &mut roll, number, body);
         drop(level);
         done
     }
 
-    // The rest, once the node is level.
+    // The rest, once the node is level: the roll goes on over what the node applies.
     fn level_course(
         &self,
         events: &mut Vec<Event<B>>,
         level: &Level<'_, B>,
+        roll: &mut Roll,
         number: u32,
         body: &B,
     ) -> Result<(), CourseFault>
-        ensures course { (x : NodeState B) → IsLevelOf self.now.own.node.rows.votes level.now x → x.rows.boot < 2 ^ 48 → x.taken < last_number →
+        ensures course { (x : NodeState B) → IsLevelOf self.now.own.node.rows.votes level.now x → HasStandings (standing_of x) roll.old →
+            x.rows.boot < 2 ^ 48 → x.taken < last_number →
             OnOk result (events.new.items ≡ events.old.items ++ level_course B.same (with_own self.now x) (act number body.now)) }
         ensures room { (round slot most : ℕ) → IsUpTo round slot most (crew_by self.now level.now) → level.now.log ≤ slot → LeavesRoom round slot most →
             IsOkUnless result fault.Memory }
     {
-        let seen = self.look(events, level)?;
-        let mut proposer = self.proposer(seen);
+        let mut proposer = self.proposer(level.seen);
+        self.look(events, level, &mut proposer)?;
         let ballot = self.first_pass(events, level, &mut proposer)?;
         let applied = level.log.get();
         let cast = proposer.proposed_after(applied);
-        let mut roll = level.roll.copy();
-        if falls(&mut roll, self.own.me(), level.boot, cast) {
+        if falls(roll, self.own.me(), level.boot, cast) {
             return self.comes_back(events, level, ballot, cast, number, body);
         }
         let log = applied + cast.len() as u64;
-        self.goes_on(events, level, &mut proposer, &roll, log, number, body)
+        self.goes_on(events, level, &mut proposer, roll, log, number, body)
     }
 
     // The node leads, and what it proposes after its log is voted for. Returns the ballot in which it leads.
@@ -153,33 +156,32 @@ impl<'a, B: Body> Crew<'a, B> {
         Ok(ballot)
     }
 
-    // Begins a ballot that need not be promised, so that the node sees the rounds that the helpers promised. Returns the greatest round that
-    // it saw then.
-    fn look(&self, events: &mut Vec<Event<B>>, level: &Level<'_, B>) -> Result<u64, CourseFault>
-        ensures events { OnOk result (events.new.items
-            ≡ events.old.items ++ look (next_ballot self.now.own.number level.now.seen) (suc level.now.log) self.now.helpers) }
-        ensures seen { IfOk result (λ round. round ≡ seen_then (next_ballot self.now.own.number level.now.seen) self.now.helpers) }
-        ensures room { suc level.now.seen < round_end → IsOkUnless result fault.Memory }
+    // Begins a ballot that need not be promised, so that the node sees the rounds that the helpers promised.
+    fn look(
+        &self,
+        events: &mut Vec<Event<B>>,
+        level: &Level<'_, B>,
+        proposer: &mut Proposer<B>,
+    ) -> Result<(), CourseFault>
+        requires me { proposer.old.state.me ≡ self.now.own.number }
+        ensures events { OnOk result (events.new.items ≡ events.old.items
+            ++ look (own_ballot self.now.own.number proposer.old.state.proposer) (suc level.now.log) self.now.helpers) }
+        ensures seen { OnOk result (proposer.new.state
+            ≡ saw (seen_then (own_ballot self.now.own.number proposer.old.state.proposer) self.now.helpers) proposer.old.state) }
+        ensures room { suc proposer.old.state.proposer.seen < round_end → IsOkUnless result fault.Memory }
     {
-        let ballot = self.next_ballot(level.seen)?;
+        let Ok(ballot) = proposer.next_ballot() else {
+            return Err(CourseFault::NoRoom);
+        };
         happen(
             events,
             Event::Start {
                 node: self.own.me(),
             },
         )?;
-        Ok(ask_all_in_vain(events, self.helpers, ballot, level.log.get() + 1)?)
-    }
-
-    // Returns the node's ballot after this round, or a fault if no round is left.
-    fn next_ballot(&self, seen: u64) -> Result<Ballot, CourseFault>
-        ensures ballot { IfOk result (λ ballot. ballot ≡ next_ballot self.now.own.number seen) }
-        ensures room { suc seen < round_end → IsOkUnless result fault.Memory }
-    {
-        let Ok(ballot) = self.proposer(seen).next_ballot() else {
-            return Err(CourseFault::NoRoom);
-        };
-        Ok(ballot)
+        let seen = ask_all_in_vain(events, self.helpers, ballot, level.log.get() + 1)?;
+        proposer.saw(seen);
+        Ok(())
     }
 
     // Has each helper cast each of these votes, and brings them to the node.

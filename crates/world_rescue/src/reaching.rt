@@ -1,11 +1,12 @@
 //! How a rescue makes its node level: which snapshot the node asks for, the events by which it gets that, and what it is then.
 
 ghost use Rattle.std.specs.Prelude.{◌≡◌, ◌<◌, ◌^◌, suc, Some, map, ◌++◌, ◌∷◌, [], IfOk, OnOk, IsOkUnless, option_copied, if◌then◌else◌};
-ghost use Rattle.paxos_node.specs.Snapshots.{boot_in};
+ghost use Rattle.paxos_node.specs.Applying.{standing_of};
 ghost use Rattle.paxos_node.specs.declared.event.Event.TheVariants.{Crash, Restart};
 ghost use Rattle.paxos_packets.specs.declared.packet.Kind.TheVariants as kinds;
 ghost use Rattle.paxos_planning.specs.Node.{log_length};
 ghost use Rattle.paxos_proposer.specs.Proposer.{round_end, slot_end};
+ghost use Rattle.replica_machine.specs.Roll.{HasStandings};
 ghost use Rattle.world_rescue.specs.Course.{seat_of, delivered};
 ghost use Rattle.world_rescue.specs.Level.{IsLevelOf};
 ghost use Rattle.world_rescue.specs.Reaching.{highest, higher, floor_or, fetch, holds_boot, learned_after, falls_after};
@@ -15,9 +16,9 @@ ghost use Rattle.world_rescue.specs.declared.fault.CourseFault.TheVariants as fa
 use crate::falling::{copied, falls_in, wanted_after};
 use crate::fault::CourseFault;
 use crate::visits::{deliver, happen};
-use paxos_node::{Event, Node, roll_at};
+use paxos_node::{Event, Node, boot_in, roll_at};
 use paxos_packets::{Body, Entry, Floor, Kind, Memory, Snapshot};
-use replica_machine::{Roll, Standing};
+use replica_machine::Roll;
 use std::alloc::Global;
 use std::marker::Model;
 
@@ -52,9 +53,8 @@ pub(crate) struct Level<'a, B> {
     // The greatest round that it saw.
     pub(crate) seen: u64,
     pub(crate) snapshot: Option<&'a Snapshot>,
-    // The length of its log, and where each node stands after it.
+    // The length of its log.
     pub(crate) log: Floor,
-    pub(crate) roll: Roll,
     pub(crate) pending: Vec<Entry<B>>,
     // How many acts it took in its boot.
     pub(crate) taken: u64,
@@ -71,23 +71,27 @@ impl<'a, B> Model for Level<'a, B> {
       seen = l.seen;
       snapshot = option_copied l.snapshot;
       log = l.log;
-      roll = l.roll;
       pending = l.pending.items;
       taken = l.taken;
     } };
 }
 
-// Has the node rest on the snapshot of a helper whose floor is above its log, if there is one. Returns what the course goes by then.
+// Has the node rest on the snapshot of a helper whose floor is above its log, if there is one, and its roll with it. Returns what the course
+// goes by then.
 pub(crate) fn reach<'a, B: Body>(
     alloc: Global,
     events: &mut Vec<Event<B>>,
+    roll: &mut Roll,
     own: &'a Node<B>,
     helpers: &'a [&'a Node<B>],
 ) -> Result<Level<'a, B>, CourseFault>
+    requires { HasStandings (standing_of own.now.state) roll.old }
     ensures events { OnOk result (events.new.items ≡ events.old.items
         ++ reach_by own.now.me own.now.state (highest (log_length own.now.state) (map (λ h. seat_of h.now) helpers.now))) }
     ensures level { IfOk result (λ level. IsLevelOf own.now.state.rows.votes level
         (reached_by own.now.me own.now.state (highest (log_length own.now.state) (map (λ h. seat_of h.now) helpers.now)))) }
+    ensures roll { OnOk result (HasStandings (standing_of
+        (reached_by own.now.me own.now.state (highest (log_length own.now.state) (map (λ h. seat_of h.now) helpers.now)))) roll.new) }
     ensures room { suc (reached_by own.now.me own.now.state (highest (log_length own.now.state) (map (λ h. seat_of h.now) helpers.now))).proposer.seen
         < round_end →
         log_length (reached_by own.now.me own.now.state (highest (log_length own.now.state) (map (λ h. seat_of h.now) helpers.now))) < slot_end →
@@ -99,7 +103,7 @@ pub(crate) fn reach<'a, B: Body>(
     let Some(source) = highest(own.applied(), helpers) else {
         return as_it_is(alloc, own, ballot.round - 1);
     };
-    reach_over(alloc, events, own, &source, ballot.round)
+    reach_over(alloc, events, roll, own, &source, ballot.round)
 }
 
 // Returns the first snapshot with the greatest floor, if that is above this floor.
@@ -180,7 +184,6 @@ fn as_it_is<'a, B: Body>(
         seen,
         snapshot: own.snapshot(),
         log,
-        roll: own.roll().copy(),
         pending,
         taken: own.taken(),
     })
@@ -191,6 +194,7 @@ fn as_it_is<'a, B: Body>(
 fn reach_over<'a, B: Body>(
     alloc: Global,
     events: &mut Vec<Event<B>>,
+    roll: &mut Roll,
     own: &Node<B>,
     source: &Source<'a>,
     round: u64,
@@ -199,6 +203,8 @@ fn reach_over<'a, B: Body>(
     ensures events { OnOk result (events.new.items ≡ events.old.items ++ reach_by own.now.me own.now.state (Some source.now)) }
     ensures level { IfOk result (λ level. IsLevelOf own.now.state.rows.votes level
         (node_over own.now.me source.now.snapshot (preparing own.now.me own.now.state))) }
+    ensures roll { OnOk result (HasStandings (standing_of
+        (node_over own.now.me source.now.snapshot (preparing own.now.me own.now.state))) roll.new) }
     ensures room { log_length (node_over own.now.me source.now.snapshot (preparing own.now.me own.now.state)) < slot_end →
         IsOkUnless result fault.Memory }
 {
@@ -206,9 +212,9 @@ fn reach_over<'a, B: Body>(
     happen(events, Event::Start { node })?;
     fetch(events, node, own.applied() + 1, source)?;
     if holds_boot(own, source.snapshot) {
-        return Ok(begins_again(alloc, events, own, source, round)?);
+        return Ok(begins_again(alloc, events, roll, own, source, round)?);
     }
-    goes_over(alloc, events, own, source.snapshot, round)
+    goes_over(alloc, events, roll, own, source.snapshot, round)
 }
 
 // Returns whether the snapshot has the node's boot, or a later one, so that the node refuses it.
@@ -218,21 +224,11 @@ fn holds_boot<B>(own: &Node<B>, snapshot: &Snapshot) -> bool
     own.boot() <= boot_in(roll_at(Some(snapshot)).standing(own.me()))
 }
 
-// Returns the greatest boot of a node with this standing, or 0 for none.
-fn boot_in(standing: Standing) -> u64
-    ensures { result ≡ boot_in standing }
-{
-    match standing {
-        Standing::Unknown => 0,
-        Standing::Live { boot, .. } => boot,
-        Standing::Gone { boot } => boot,
-    }
-}
-
 // The node, which refused the snapshot, begins its next boot, and gets it again.
 fn begins_again<'a, B: Body>(
     alloc: Global,
     events: &mut Vec<Event<B>>,
+    roll: &mut Roll,
     own: &Node<B>,
     source: &Source<'a>,
     round: u64,
@@ -242,18 +238,21 @@ fn begins_again<'a, B: Body>(
         ++ Crash own.now.me ∷ Restart own.now.me ∷ delivered source.now.number (kinds.Snapshot source.now.snapshot) own.now.me ∷ []) }
     ensures level { IfOk result (λ level. IsLevelOf own.now.state.rows.votes level
         (begins_over own.now.me source.now.snapshot (preparing own.now.me own.now.state))) }
+    ensures roll { OnOk result (HasStandings (standing_of
+        (begins_over own.now.me source.now.snapshot (preparing own.now.me own.now.state))) roll.new) }
 {
     let node = own.me();
     happen(events, Event::Crash { node })?;
     happen(events, Event::Restart { node })?;
     give(events, node, source)?;
-    begun(alloc, own, source.snapshot, round)
+    begun(alloc, roll, own, source.snapshot, round)
 }
 
 // The node rests on the snapshot, and applies what it had learned after it; if the loss of its boot is among that, it begins its next boot.
 fn goes_over<'a, B: Body>(
     alloc: Global,
     events: &mut Vec<Event<B>>,
+    roll: &mut Roll,
     own: &Node<B>,
     snapshot: &'a Snapshot,
     round: u64,
@@ -264,12 +263,15 @@ fn goes_over<'a, B: Body>(
     ensures level { IfOk result (λ level. IsLevelOf own.now.state.rows.votes level (if falls_after own.now.me snapshot.now own.now.state
         then begins_over own.now.me snapshot.now (preparing own.now.me own.now.state)
         else goes_over snapshot.now (preparing own.now.me own.now.state))) }
+    ensures roll { OnOk result (HasStandings (standing_of (if falls_after own.now.me snapshot.now own.now.state
+        then begins_over own.now.me snapshot.now (preparing own.now.me own.now.state)
+        else goes_over snapshot.now (preparing own.now.me own.now.state))) roll.new) }
     ensures room { log_length (if falls_after own.now.me snapshot.now own.now.state
         then begins_over own.now.me snapshot.now (preparing own.now.me own.now.state)
         else goes_over snapshot.now (preparing own.now.me own.now.state)) < slot_end → IsOkUnless result fault.Memory }
 {
     let run = own.run_after(Floor::at(snapshot.floor()))?;
-    let done = goes_by(alloc, events, own, snapshot, run.as_slice(), round);
+    let done = goes_by(alloc, events, roll, own, snapshot, run.as_slice(), round);
     drop(run);
     done
 }
@@ -278,6 +280,7 @@ fn goes_over<'a, B: Body>(
 fn goes_by<'a, B: Body>(
     alloc: Global,
     events: &mut Vec<Event<B>>,
+    roll: &mut Roll,
     own: &Node<B>,
     snapshot: &'a Snapshot,
     run: &[Entry<B>],
@@ -290,21 +293,25 @@ fn goes_by<'a, B: Body>(
     ensures level { IfOk result (λ level. IsLevelOf own.now.state.rows.votes level (if falls_after own.now.me snapshot.now own.now.state
         then begins_over own.now.me snapshot.now (preparing own.now.me own.now.state)
         else goes_over snapshot.now (preparing own.now.me own.now.state))) }
+    ensures roll { OnOk result (HasStandings (standing_of (if falls_after own.now.me snapshot.now own.now.state
+        then begins_over own.now.me snapshot.now (preparing own.now.me own.now.state)
+        else goes_over snapshot.now (preparing own.now.me own.now.state))) roll.new) }
     ensures room { log_length (if falls_after own.now.me snapshot.now own.now.state
         then begins_over own.now.me snapshot.now (preparing own.now.me own.now.state)
         else goes_over snapshot.now (preparing own.now.me own.now.state)) < slot_end → IsOkUnless result fault.Memory }
 {
-    let mut roll = roll_at(Some(snapshot));
-    if falls_in(&mut roll, own.me(), own.boot(), run) {
+    *roll = roll_at(Some(snapshot));
+    if falls_in(roll, own.me(), own.boot(), run) {
         happen(events, Event::Restart { node: own.me() })?;
-        return Ok(begun(alloc, own, snapshot, round)?);
+        return Ok(begun(alloc, roll, own, snapshot, round)?);
     }
-    rides(alloc, own, snapshot, run, round)
+    rides(alloc, roll, own, snapshot, run, round)
 }
 
 // Returns what the course goes by if the node rests on the snapshot, and applies this run after it.
 fn rides<'a, B: Body>(
     alloc: Global,
+    roll: &mut Roll,
     own: &Node<B>,
     snapshot: &'a Snapshot,
     run: &[Entry<B>],
@@ -313,19 +320,19 @@ fn rides<'a, B: Body>(
     requires round { round ≡ suc own.now.state.proposer.seen }
     requires run { run.now ≡ learned_after snapshot.now own.now.state }
     ensures level { IfOk result (λ level. IsLevelOf own.now.state.rows.votes level (goes_over snapshot.now (preparing own.now.me own.now.state))) }
+    ensures roll { OnOk result (HasStandings (standing_of (goes_over snapshot.now (preparing own.now.me own.now.state))) roll.new) }
     ensures room { log_length (goes_over snapshot.now (preparing own.now.me own.now.state)) < slot_end → IsOkUnless result fault.Memory }
 {
     let Some(log) = Floor::new(snapshot.floor().get() + run.len() as u64) else {
         return Err(CourseFault::NoRoom);
     };
-    let mut roll = roll_at(Some(snapshot));
-    let pending = wanted_after(alloc, &mut roll, own.pending(), run)?;
+    *roll = roll_at(Some(snapshot));
+    let pending = wanted_after(alloc, roll, own.pending(), run)?;
     Ok(Level {
         boot: own.boot(),
         seen: round,
         snapshot: Some(snapshot),
         log,
-        roll,
         pending,
         taken: own.taken(),
     })
@@ -334,13 +341,15 @@ fn rides<'a, B: Body>(
 // Returns what the course goes by if the node begins its next boot on the snapshot.
 fn begun<'a, B: Body>(
     alloc: Global,
+    roll: &mut Roll,
     own: &Node<B>,
     snapshot: &'a Snapshot,
     round: u64,
 ) -> Result<Level<'a, B>, Memory>
     requires { round ≡ suc own.now.state.proposer.seen }
-    ensures { IfOk result (λ level. IsLevelOf own.now.state.rows.votes level
+    ensures level { IfOk result (λ level. IsLevelOf own.now.state.rows.votes level
         (begins_over own.now.me snapshot.now (preparing own.now.me own.now.state))) }
+    ensures roll { OnOk result (HasStandings (standing_of (begins_over own.now.me snapshot.now (preparing own.now.me own.now.state))) roll.new) }
 {
     let boot = next(own.boot());
     let mut pending = Vec::new(alloc);
@@ -350,12 +359,12 @@ fn begun<'a, B: Body>(
     }) else {
         return Err(Memory);
     };
+    *roll = roll_at(Some(snapshot));
     Ok(Level {
         boot,
         seen: round,
         snapshot: Some(snapshot),
         log: Floor::at(snapshot.floor()),
-        roll: roll_at(Some(snapshot)),
         pending,
         taken: 0,
     })

@@ -1,10 +1,7 @@
 use Rattle.std.proofs.Common.{◌≤◌, ℕ, suc, [], ◌∷◌, ap, sym, ◌∙◌, subst}
 use Rattle.paxos_packets.specs.Snapshot.{Snapshot}
 use Rattle.paxos_proposer.specs.declared.moves.Move.TheVariants.{Raised}
-use Rattle.paxos_learner.specs.Hearing.{hear_all}
-use Rattle.paxos_learner.specs.Learned.{Rises}
 use Rattle.paxos_learner.specs.Learner.{run_from}
-use Rattle.paxos_learner.specs.Learner as learning
 use Rattle.paxos_planning.specs.Node.{log_length}
 use Rattle.paxos_planning.specs.Plan.{begun}
 use Rattle.paxos_node.specs.Adopting.{Settled}
@@ -19,19 +16,11 @@ pub rested-requires-clause-moves : goal.rested-requires-clause-moves
 rested-requires-clause-moves g c =
     c.in-Ok-raised.ensures ∙ ap (λ (n : ℕ). Raised n ∷ []) (c.floor.ensures ∙ ap (λ (s : Snapshot). s.floor) (sym c.in-Ok.ensures))
 
-pub rested-requires-clause-news : goal.rested-requires-clause-news
-rested-requires-clause-news g c = c.into_news.ensures.news ∙ c.of-hearing.ensures.news
-
-pub rested-requires-clause-rises : goal.rested-requires-clause-rises
-rested-requires-clause-rises g c =
-    subst (λ (s : learning.State g.row.B.Denot). Rises s.learner.floor s.learner.learned)
-    ((λ i. hear_all (c.of-hearing.ensures.news i) (c.of-hearing.ensures.before i)) ∙ c.learner.ensures) c.into_news.ensures.rises
-
 pub rested-requires-clause-run : goal.rested-requires-clause-run
 rested-requires-clause-run g c =
-    c.in-Ok-run_after.ensures.run
-    ∙ (λ i. run_from (suc ((c.get.ensures.value ∙ c.floor-2.ensures ∙ ap (λ (s : Snapshot). s.floor) (sym c.in-Ok.ensures)) i))
-    (((λ j. hear_all (c.of-hearing.ensures.news j) (c.of-hearing.ensures.before j)) ∙ c.learner.ensures) i).learner.learned)
+    c.in-Ok-run_after.ensures
+    ∙ ap (λ (n : ℕ). run_from (suc n) c.args.self.now.state.learner.learned)
+    (c.at.ensures ∙ c.floor-2.ensures ∙ ap (λ (s : Snapshot). s.floor) (sym c.in-Ok.ensures))
 
 pub returns-clause-planned : goal.returns-clause-planned
 returns-clause-planned g c =

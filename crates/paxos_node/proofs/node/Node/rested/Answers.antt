@@ -2,6 +2,8 @@ use Rattle.std.proofs.Common.{◌≡◌, ◌≤◌, ◌<◌, ◌^◌, ℕ, cond,
 use Rattle.std.specs.Prelude.{Some}
 use Rattle.paxos_packets.specs.declared.entry.Entry.{Entry}
 use Rattle.paxos_proposer.specs.declared.moves.Move.TheVariants.{Raised}
+use Rattle.paxos_learner.specs.Learned.{Rises}
+use Rattle.paxos_learner.specs.Learner as learning
 use Rattle.paxos_planning.specs.Node.{NodeState}
 use Rattle.paxos_planning.specs.Plan.{begun}
 use Rattle.paxos_node.specs.declared.outcome.Outcome.{Outcome}
@@ -34,6 +36,8 @@ returns-clause-settled g c =
     c.log_behind-log.ensures ∙ (λ i. cond c.until_lost-count.result.1 0 (floor i + length (c.as_slice-2.ensures i))) in
     let low : x.learner.floor ≤ c.args.snapshot.floor =
     (let at = c.begins.ensures.floor in let more = c.requires.more in omega arith) in
+    let rises : Rises x.learner.floor x.learner.learned =
+    subst (λ (s : learning.State g.row.B.Denot). Rises s.learner.floor s.learner.learned) c.learner.ensures c.ascends.ensures in
     let planned : c.resting.result ≡ resting_with c.args.snapshot c.args.over (Raised c.args.snapshot.floor ∷ []) [] c.first_of-applied.result
     c.until_lost-count.result.1 c.log_behind-log.result =
     c.resting.ensures
@@ -41,4 +45,4 @@ returns-clause-settled g c =
     c.log_behind-log.result) in
     subst (λ (o : Outcome g.row.B.Denot). Settled me members x (rest_on c.args.over c.args.snapshot (begun x)) o) (sym planned)
     (rests me members x c.args.snapshot c.args.over run c.first_of-applied.result c.until_lost-count.result.1 c.log_behind-log.result c.requires.up low within
-    c.requires.rises c.requires.run applied down log)
+    rises c.requires.run applied down log)

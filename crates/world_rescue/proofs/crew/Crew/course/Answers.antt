@@ -1,6 +1,8 @@
 use Rattle.std.proofs.Common.{◌≡◌, ◌<◌, suc, ◌++◌, subst, rules}
 use Rattle.paxos_planning.specs.Node.{NodeState, log_length}
 use Rattle.paxos_proposer.specs.Proposer.{round_end, slot_end}
+use Rattle.paxos_node.specs.Applying.{standing_of}
+use Rattle.replica_machine.specs.Roll.{HasStandings}
 use Rattle.world_rescue.proofs.Lacking.{handed}
 use Rattle.world_rescue.proofs.Listing.{joined, on_ok}
 use Rattle.world_rescue.proofs.Levelling.{reached_boot, reached_taken, level_low, log_low, has_round, has_slot}
@@ -17,11 +19,13 @@ returns-clause-course g c = λ boots acts.
     let x : NodeState g.row.B.Denot = (reached crew).own.node in
     let is : IsLevelOf crew.own.node.rows.votes c.in_ok-level.level x =
     subst (λ (v : Crew g.row.B.Denot). IsLevelOf v.own.node.rows.votes c.in_ok-level.level (reached v).own.node) c.self.view_is c.in_ok-level.ensures.level in
+    let stood : HasStandings (standing_of x) c.reach.new.roll =
+    subst (λ (v : Crew g.row.B.Denot). HasStandings (standing_of (reached v).own.node) c.reach.new.roll) c.self.view_is c.in_ok-level.ensures.roll in
     let reaches : c.reach.new.events.items ≡ c.args.events.now.items ++ reach crew = search rules in
     on_ok c.level_course-done.result
     (joined c.args.events.now.items c.reach.new.events.items c.level_course-done.new.events.items (reach crew) (level_course g.B.Body.same (reached crew) a)
     reaches)
-    (c.level_course-done.ensures.course x is (reached_boot crew.own.number crew.own.node (source_of crew) boots)
+    (c.level_course-done.ensures.course x is stood (reached_boot crew.own.number crew.own.node (source_of crew) boots)
     (reached_taken crew.own.number crew.own.node (source_of crew) acts))
 
 pub returns-clause-room : goal.returns-clause-room
