@@ -22,7 +22,7 @@ use Rattle.paxos_packets.specs.declared.rows.Rows.{Rows}
 use Rattle.command_codec.specs.Number.{Reading}
 use Rattle.store_keeper.specs.Keeper.{no_rows}
 use Rattle.acceptor_store.specs.Tables.{empty_schema}
-use Rattle.acceptor_store.specs.Store.{Kept, Stores, Holds}
+use Rattle.acceptor_store.specs.Store.{Kept, HasStored, Holds}
 use Rattle.acceptor_store.specs.Files.{HoldsImage}
 use Rattle.acceptor_store.proofs.Calling.{earlier}
 
@@ -60,12 +60,12 @@ pub holds_image : {D : Type 0} {g : Ghosts D} {B : Type 0} (reading : List ℕ �
     → (HasCleanDisk (file_state conn) → IsOpened conn) → (HasCleanDisk (file_state conn) → FindsIn image (file_state conn))
     → doubt (file_state conn).is_clean ≤ doubt (file_state k.conn).is_clean
     → (conn.schema ≡ empty_schema → Holds over_files reading k no_rows)
-    → ((rows : Rows B) → IsTrue (file_state conn).is_open → Stores reading (file_state conn).committed.trees rows → Holds over_files reading k rows)
+    → ((rows : Rows B) → IsTrue (file_state conn).is_open → HasStored reading (file_state conn).committed.trees rows → Holds over_files reading k rows)
     → HoldsImage reading image k
 holds_image reading image conn k opened found less founded again = record {
   stored = λ db held rows stores clean.
       let now = earlier over_files conn k.conn less clean in
-      again rows (opened now).0.is_open (subst (λ trees. Stores reading trees rows) (sym ((found now).holds db held)) stores) clean;
+      again rows (opened now).0.is_open (subst (λ trees. HasStored reading trees rows) (sym ((found now).holds db held)) stores) clean;
   nothing = λ none clean.
       let now = earlier over_files conn k.conn less clean in
       let is = opened now in

@@ -11,9 +11,9 @@ use Rattle.sqlite.specs.Effect.{Database}
 use Rattle.sqlite.specs.Listing.{understood}
 use Rattle.sqlite.specs.State.{State, Writes, Executes}
 use Rattle.sqlite.proofs.Callers.{IsPlain, command_of, statement_of, runs_as}
-use Rattle.acceptor_store.specs.Tables.{meta_table, vote_table, store_schema, schema_of, empty_schema, create_meta_text, create_vote_text, meta_row}
+use Rattle.acceptor_store.specs.Tables.{meta_table, vote_table, snapshot_table, old_tables, store_schema, old_schema, schema_of, empty_schema, create_meta_text, create_vote_text, create_snapshot_text, meta_row, snapshot_row}
 use Rattle.acceptor_store.specs.Statements.{HasAtMost, Makes, PutsAlone, IsFounded}
-use Rattle.acceptor_store.proofs.Texts.{create_meta_is, create_meta_plain, create_vote_is, create_vote_plain}
+use Rattle.acceptor_store.proofs.Texts.{create_meta_is, create_meta_plain, create_vote_is, create_vote_plain, create_snapshot_is, create_snapshot_plain}
 use Rattle.acceptor_store.proofs.Puts.{went, same_value}
 
 -- a text that defines the next table of a schema
@@ -54,16 +54,26 @@ pub creates_vote : (old new : State) (r : Result ℕ Error) → old.now.schema �
     → Executes create_vote_text [] old new r → OnOk r (Makes (meta_table ∷ []) vote_table old.now new.now)
 creates_vote = creates (meta_table ∷ []) vote_table create_vote_text create_vote_is create_vote_plain refl refl refl
 
--- the tables one after the other, then the row of `meta`
+pub creates_snapshot : (old new : State) (r : Result ℕ Error) → old.now.schema ≡ old_schema → Executes create_snapshot_text [] old new r
+    → OnOk r (Makes old_tables snapshot_table old.now new.now)
+creates_snapshot = creates old_tables snapshot_table create_snapshot_text create_snapshot_is create_snapshot_plain refl refl refl
 
-pub meta_free : (one two : Database) → one.trees 0 ≡ [] → Makes (meta_table ∷ []) vote_table one two → HasAtMost 1 (two.trees 0)
-meta_free one two none vote = inl (vote.others.0 ∙ none)
+-- the tables one after the other, then the rows of `snapshot` and of `meta`
 
-pub founded : (one two new : Database) → Makes (meta_table ∷ []) vote_table one two → PutsAlone store_schema 0 (meta_row 0 0 0) two new
-    → IsFounded new
-founded one two new vote put = record {
+pub snapshot_free : (two three : Database) → Makes old_tables snapshot_table two three → HasAtMost 1 (three.trees 2)
+snapshot_free two three made = inl made.empty
+
+pub meta_free : (one two three four : Database) → one.trees 0 ≡ [] → Makes (meta_table ∷ []) vote_table one two → Makes old_tables snapshot_table two three
+    → PutsAlone store_schema 2 (snapshot_row 0 []) three four → HasAtMost 1 (four.trees 0)
+meta_free one two three four none vote snapshot put =
+    inl (put.edits.others 0 (λ e. omega (arith, e)) ∙ snapshot.others.0 ∙ vote.others.0 ∙ none)
+
+pub founded : (one two three four new : Database) → Makes (meta_table ∷ []) vote_table one two → Makes old_tables snapshot_table two three
+    → PutsAlone store_schema 2 (snapshot_row 0 []) three four → PutsAlone store_schema 0 (meta_row 0 0 0) four new → IsFounded new
+founded one two three four new vote snapshot first put = record {
   schema = put.edits.schema;
   sound = put.edits.sound;
   meta = put.alone;
-  empty = (put.edits.others 1 (λ e. omega (arith, e)) ∙ vote.empty, tt);
+  votes = put.edits.others 1 (λ e. omega (arith, e)) ∙ first.edits.others 1 (λ e. omega (arith, e)) ∙ snapshot.others.1.0 ∙ vote.empty;
+  snapshot = put.edits.others 2 (λ e. omega (arith, e)) ∙ first.alone;
 }

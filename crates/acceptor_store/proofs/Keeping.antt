@@ -1,5 +1,5 @@
 -- What a keeper holds and finds, over the calls of its connection.
-use Rattle.std.proofs.Common.{◌≡◌, ◌⊎◌, inl, inr, ⊎_elim, ℕ, zero, suc, length, drop, ◌+◌, ◌≤◌, not, ◌||◌, Bool, true, false, cond, List, [], ◌∷◌, Option, Some, None, Ok, refl, ap, sym, ◌∙◌, subst, arith, IsTrue, nat_lt}
+use Rattle.std.proofs.Common.{◌≡◌, ◌≢◌, ◌⊎◌, inl, inr, ⊎_elim, ℕ, zero, suc, length, drop, ◌+◌, ◌≤◌, not, ◌||◌, Bool, true, false, cond, List, [], ◌∷◌, Option, Some, None, Ok, refl, ap, sym, ◌∙◌, subst, arith, IsTrue, nat_lt}
 use Rattle.std.specs.Prelude.{◌&&◌, ◌==◌}
 use Rattle.std.specs.Option.{option_or}
 use Rattle.std.proofs.lemmas.Bool.Decides.{nat_tests}
@@ -11,6 +11,7 @@ use Rattle.sqlite.specs.Effect.{Database}
 use Rattle.sqlite.specs.State.{State, HasCleanDisk, IsLive, Survives}
 use Rattle.std.specs.List.{AllByRecursion}
 use Rattle.paxos_packets.specs.Ballot.{below}
+use Rattle.paxos_packets.specs.Snapshot.{floor_in}
 use Rattle.paxos_packets.specs.Vote.{put_vote, put_votes}
 use Rattle.paxos_packets.specs.declared.ballot.Ballot.{Ballot}
 use Rattle.paxos_packets.specs.declared.vote.Vote.{Vote}
@@ -106,15 +107,15 @@ promise_is promised (Some c) next h = go (not (is_ballot c) || is_lower c promis
 abbrev pub SoFar : {B : Type 0} → (List ℕ → Reading B) → List (Vote B) → List (Vote B) → State → State → ℕ → Type 0
 SoFar {B} reading votes rest old now n =
     IsTrue now.in_transaction × ((n ≡ 0) ⊎ IsTrue old.is_open)
-    × ((rows : Rows B) → Reads reading old.now rows → AllByRecursion (λ v. is_placed rows.promised v ≡ true) votes
+    × ((rows : Rows B) → Reads reading old.now rows → AllByRecursion (λ v. is_placed rows.promised (floor_in rows.snapshot) v ≡ true) votes
     → (vs : List (Vote B)) × Reads reading now.now (record rows { votes = vs }) × (put_votes rest vs ≡ put_votes votes rows.votes)
-    × AllByRecursion (λ v. is_placed rows.promised v ≡ true) rest)
+    × AllByRecursion (λ v. is_placed rows.promised (floor_in rows.snapshot) v ≡ true) rest)
 
 pub so_far_none : {B : Type 0} (reading : List ℕ → Reading B) (votes : List (Vote B)) (old : State) → IsTrue old.in_transaction → SoFar reading votes votes old old 0
 so_far_none reading votes old inside = (inside, inl refl, λ rows has placed. (rows.votes, has, refl, placed))
 
 pub so_far_next : {B : Type 0} (reading : List ℕ → Reading B) (votes more : List (Vote B)) (v : Vote B) (old mid new : State) (n : ℕ) → SoFar reading votes (v ∷ more) old mid n
-    → ((rows : Rows B) → Reads reading mid.now rows → is_placed rows.promised v ≡ true → Reads reading new.now (record rows { votes = put_vote v rows.votes }))
+    → ((rows : Rows B) → Reads reading mid.now rows → is_placed rows.promised (floor_in rows.snapshot) v ≡ true → Reads reading new.now (record rows { votes = put_vote v rows.votes }))
     → GoesOn (Unit {0}) mid new → (n ≡ 0 → mid.is_open ≡ old.is_open) → SoFar reading votes more old new (n + 1)
 so_far_next reading votes more v old mid new n so put goes first = (
   goes.0,
@@ -125,7 +126,7 @@ so_far_next reading votes more v old mid new n so put goes first = (
 )
 
 pub so_far_all : {B : Type 0} (reading : List ℕ → Reading B) (votes : List (Vote B)) (old now : State) (n : ℕ) → SoFar reading votes [] old now n
-    → (rows : Rows B) → Reads reading old.now rows → AllByRecursion (λ v. is_placed rows.promised v ≡ true) votes
+    → (rows : Rows B) → Reads reading old.now rows → AllByRecursion (λ v. is_placed rows.promised (floor_in rows.snapshot) v ≡ true) votes
     → Reads reading now.now (record rows { votes = put_votes votes rows.votes })
 so_far_all reading votes old now n so rows has placed = let k = so.2 rows has placed in subst (λ vs. Reads reading now.now (record rows { votes = vs })) k.2 k.1
 
@@ -155,3 +156,16 @@ pub wrote_left : {B : Type 0} (reading : List ℕ → Reading B) (old new : Stat
     → (Reads reading old.now rows → Reads reading new.committed next) → Leaves reading old rows → Leaves reading new next
 wrote_left reading old new rows next live settled stays is_open crash wrote left =
     reads_left reading new next crash (wrote (left_reads reading old rows live settled is_open stays left)).1
+
+-- what was done in three parts of a transaction, of which one did something
+pub went_on : {X V : Type 0} (o : Option X) (puts : Bool) (old one two new : State) → (puts ≡ true) ⊎ ((o ≢ None) ⊎ V) → GoesOn (o ≢ None) old one
+    → GoesOn (puts ≡ true) one two → GoesOn V two new → (o ≡ None → one ≡ old) → (puts ≡ false → two ≡ one) → GoesOn (Unit {0}) old new
+went_on (Some x) puts old one two new some a b c idle still = (c.0, λ _. a.1 (λ e. absurd cc))
+went_on None true old one two new some a b c idle still = (c.0, λ _. subst (λ (s : State). IsTrue s.is_open) (idle refl) (b.1 refl))
+went_on {X} {V} None false old one two new some a b c idle still =
+    (c.0, λ _. subst (λ (s : State). IsTrue s.is_open) (idle refl) (subst (λ (s : State). IsTrue s.is_open) (still refl) (c.1 (only some))))
+  where
+    only : (false ≡ true) ⊎ ((◌≢◌ {A = Option X} None None) ⊎ V) → V
+    only (inl e) = absurd cc
+    only (inr (inl n)) = absurd (n refl)
+    only (inr (inr v)) = v

@@ -4,6 +4,8 @@ mod Founding
 mod Votes
 mod Trees
 mod Putting
+mod Deleting
+mod Forgetting
 mod Reading
 mod Meaning
 mod Telling

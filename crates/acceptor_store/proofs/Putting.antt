@@ -1,5 +1,5 @@
 -- What an INSERT OR REPLACE of one row makes of a database.
-use Rattle.std.proofs.Common.{◌≡◌, ◌⊎◌, inl, inr, ℕ, ℤ, pos, negsuc, ◌≤◌, not, Bool, true, false, cond, List, [], ◌∷◌, map, Option, Some, None, Ok, Err, Result, OnOk, eqb, refl, sym, ap, subst, ◌∙◌, arith}
+use Rattle.std.proofs.Common.{◌≡◌, ◌⊎◌, inl, inr, ℕ, ℤ, pos, negsuc, ◌<◌, ◌≤◌, not, Bool, true, false, cond, List, [], ◌∷◌, map, Option, Some, None, Ok, Err, Result, OnOk, eqb, refl, sym, ap, subst, ◌∙◌, arith}
 use Rattle.std.specs.Prelude.{nat_le, ◌&&◌, ◌/◌, length, slice_get}
 use Rattle.std.specs.List.{AllByRecursion}
 use Rattle.std.proofs.lemmas.Bool.{eqb-false, leb-true}
@@ -35,11 +35,11 @@ use Rattle.paxos_packets.specs.Vote.{put_vote}
 use Rattle.paxos_packets.specs.declared.ballot.Ballot.{Ballot}
 use Rattle.paxos_packets.specs.declared.vote.Vote.{Vote}
 use Rattle.command_codec.specs.Number.{Reading}
-use Rattle.acceptor_store.specs.Tables.{meta_table, vote_table, store_tables, schema_of, store_schema, put_meta_text, put_vote_text, meta_row, vote_row, vote_columns}
-use Rattle.acceptor_store.specs.Statements.{HasAtMost, Edits, PutsAlone}
+use Rattle.acceptor_store.specs.Tables.{meta_table, vote_table, snapshot_table, store_tables, schema_of, store_schema, put_meta_text, put_vote_text, put_snapshot_text, meta_row, vote_row, snapshot_row, vote_columns}
+use Rattle.acceptor_store.specs.Statements.{key_of, HasAtMost, Edits, PutsAlone}
 use Rattle.store_rows.specs.Rows.{within, slot_in, ballot_in, entry_in, vote_of, is_promised}
-use Rattle.acceptor_store.specs.Store.{key_of, IsVote, AreVotes}
-use Rattle.acceptor_store.proofs.Texts.{put_meta_terms, put_vote_terms, put_meta_is, put_meta_plain, put_vote_is, put_vote_plain}
+use Rattle.acceptor_store.specs.Store.{IsVote, AreVotes}
+use Rattle.acceptor_store.proofs.Texts.{put_meta_terms, put_vote_terms, put_snapshot_terms, put_meta_is, put_meta_plain, put_vote_is, put_vote_plain, put_snapshot_is, put_snapshot_plain}
 use Rattle.acceptor_store.proofs.Puts.{went, same_value, cast_null, cast_int, not_counted, task, replaces}
 use Rattle.acceptor_store.proofs.Trees.{has_row_new, has_row, has_row_old, not_taken, has_left, left_has, once_left, once_put, number_cmp, conflict_ids}
 use Rattle.store_rows.proofs.Options.{and_then_is, map_is}
@@ -79,8 +79,8 @@ vote_slot {B} reading row v h =
     (is.0 ∙ ap (λ n. Int (pos n)) same, subst (λ n. 1 ≤ n) same is.1)
 
 -- a row for a vote is put among the rows of votes
-module _ {B : Type 0} (reading : List ℕ → Reading B) (promised : Option Ballot) (tree : List Row) (vs : List (Vote B)) (are : AreVotes reading promised tree vs)
-    (n : Row) (v : Vote B) (is : IsVote reading n v) (under : is_promised promised v.ballot ≡ true)
+module _ {B : Type 0} (reading : List ℕ → Reading B) (promised : Option Ballot) (floor : ℕ) (tree : List Row) (vs : List (Vote B)) (are : AreVotes reading promised floor tree vs)
+    (n : Row) (v : Vote B) (is : IsVote reading n v) (under : is_promised promised v.ballot ≡ true) (above : floor < v.slot)
     (t : Table) (found : List Row) (conflict : AreConflicts None [] t tree n found)
     (free : is_taken (without_all tree (ids_of found)) n ≡ false) where
   abbrev left : List Row
@@ -118,7 +118,7 @@ module _ {B : Type 0} (reading : List ℕ → Reading B) (promised : Option Ball
           (o.0, o.1, has_put v vs o.0 o.2 (eqb-false o.0.slot v.slot differs))
 
   all : AllByRecursion (λ w. (row : Row) × Has (put_row n left) row × IsVote reading row w) (put_vote v vs)
-  all = all_from _ (put_vote v vs) (λ w h. go w (has_put_old v 0 vs w are.ascend h))
+  all = all_from _ (put_vote v vs) (λ w h. go w (has_put_old v floor vs w are.ascend h))
     where
       go : (w : Vote B) → (w ≡ v) ⊎ (Has vs w × (w.slot ≡ v.slot → ⊥)) → (row : Row) × Has (put_row n left) row × IsVote reading row w
       go w (inl e) = (n, has_row_new n left, is ∙ ap Some (sym e))
@@ -134,13 +134,13 @@ module _ {B : Type 0} (reading : List ℕ → Reading B) (promised : Option Ball
       let test : eqb v.slot m.0 ≡ false = let a = apart x m.0 k m.1 in grind (arith, nat_tests) in
       (rw (new_slot, m.1) test, keys_differ xs (λ y h. f y (inr h)))
 
-  pub votes_put : AreVotes reading promised (put_row n left) (put_vote v vs)
+  pub votes_put : AreVotes reading promised floor (put_row n left) (put_vote v vs)
   votes_put = record {
     each = each;
     all = all;
     once = once_put n left (keys_differ left (λ x h. h)) (once_left (ids_of found) tree are.once);
-    promised_all = all_from _ (put_vote v vs) (λ w h. under_all w (has_put_old v 0 vs w are.ascend h));
-    ascend = ascend_put v 0 vs are.ascend (let l = (vote_slot reading (vote_columns n) v is).1 in omega arith);
+    promised_all = all_from _ (put_vote v vs) (λ w h. under_all w (has_put_old v floor vs w are.ascend h));
+    ascend = ascend_put v floor vs are.ascend above;
   }
     where
       under_all : (w : Vote B) → (w ≡ v) ⊎ (Has vs w × (w.slot ≡ v.slot → ⊥)) → is_promised promised w.ballot ≡ true
@@ -263,10 +263,10 @@ abbrev pub meta_params : ℕ → ℕ → ℕ → Row
 meta_params boot round node = Int (pos boot) ∷ Int (pos round) ∷ Int (pos node) ∷ []
 
 meta_cast : (boot round node : ℕ) → cast_row meta_table (meta_row boot round node) ≡ meta_row boot round node
-meta_cast boot round node = rw (cast_int (pos 1), cast_int (pos boot), cast_int (pos round), cast_int (pos node), cast_null) refl
+meta_cast boot round node = rw (cast_int (pos 1), cast_int (pos 2), cast_int (pos boot), cast_int (pos round), cast_int (pos node), cast_null) refl
 
 meta_made : (boot round node : ℕ) → cast_row meta_table (mended Replace meta_table (meta_row boot round node)) ≡ meta_row boot round node
-meta_made boot round node = rw (cast_int (pos 1), cast_int (pos boot), cast_int (pos round), cast_int (pos node), cast_null) refl
+meta_made boot round node = rw (cast_int (pos 1), cast_int (pos 2), cast_int (pos boot), cast_int (pos round), cast_int (pos node), cast_null) refl
 
 pub puts_meta : (old new : State) (boot round node : ℕ) (r : Result ℕ Error) → old.now.schema ≡ store_schema → HasAtMost 1 (old.now.trees 0)
     → Executes put_meta_text (meta_params boot round node) old new r
@@ -275,3 +275,20 @@ puts_meta old new boot round node r has most h =
     puts_alone store_tables meta_table (meta_row boot round node) 1 old.now new.now r refl most
     (puts_row store_tables 0 meta_table put_meta_text put_meta_terms 6 (meta_params boot round node) (meta_row boot round node)
     refl put_meta_is put_meta_plain refl (λ _ _ _. refl) refl (meta_cast boot round node) (meta_made boot round node) refl old new r has h)
+
+abbrev pub snapshot_params : ℕ → List ℕ → Row
+snapshot_params floor octets = Int (pos floor) ∷ Blob octets ∷ []
+
+snapshot_cast : (floor : ℕ) (octets : List ℕ) → cast_row snapshot_table (snapshot_row floor octets) ≡ snapshot_row floor octets
+snapshot_cast floor octets = rw (cast_int (pos 1), cast_int (pos floor), cast_null) refl
+
+snapshot_made : (floor : ℕ) (octets : List ℕ) → cast_row snapshot_table (mended Replace snapshot_table (snapshot_row floor octets)) ≡ snapshot_row floor octets
+snapshot_made floor octets = rw (cast_int (pos 1), cast_int (pos floor), cast_null) refl
+
+pub puts_snapshot : (old new : State) (floor : ℕ) (octets : List ℕ) (r : Result ℕ Error) → old.now.schema ≡ store_schema → HasAtMost 1 (old.now.trees 2)
+    → Executes put_snapshot_text (snapshot_params floor octets) old new r
+    → OnOk r (PutsAlone store_schema 2 (snapshot_row floor octets) old.now new.now)
+puts_snapshot old new floor octets r has most h =
+    puts_alone store_tables snapshot_table (snapshot_row floor octets) 1 old.now new.now r refl most
+    (puts_row store_tables 2 snapshot_table put_snapshot_text put_snapshot_terms 4 (snapshot_params floor octets) (snapshot_row floor octets)
+    refl put_snapshot_is put_snapshot_plain refl (λ _ _ _. refl) refl (snapshot_cast floor octets) (snapshot_made floor octets) refl old new r has h)

@@ -1,5 +1,5 @@
--- What the two SELECT statements show of a database.
-use Rattle.std.proofs.Common.{◌≡◌, ℕ, pos, negsuc, List, [], ◌∷◌, map, codes, false, None, refl, sym, ap, subst, ◌∙◌}
+-- What the SELECT statements show of a database.
+use Rattle.std.proofs.Common.{◌≡◌, ◌⊎◌, inl, inr, ℕ, pos, negsuc, List, [], ◌∷◌, map, codes, false, None, refl, sym, ap, subst, ◌∙◌}
 use Rattle.std.specs.Prelude.{IsPermutation, flat_map}
 use Rattle.std.proofs.lemmas.List.Sorted.{IsPermutation-map}
 use Rattle.sqlite_value.specs.declared.value.Value.TheVariants.{Null, Int}
@@ -18,7 +18,7 @@ use Rattle.sqlite.specs.Clock.{timed}
 use Rattle.sqlite.specs.State.{State, HasCleanDisk, Survives, IsUnchanged, Shown, ShowsRows, CommitsShowing}
 use Rattle.sqlite.proofs.Callers.{IsPlain, command_of, reads_as, never_commits}
 use Rattle.sqlite.proofs.StateLemmas.{survives_weaker}
-use Rattle.acceptor_store.specs.Tables.{store_schema, read_meta_text, read_votes_text, meta_columns, vote_columns}
+use Rattle.acceptor_store.specs.Tables.{store_schema, old_schema, read_meta_text, read_votes_text, read_snapshot_text, meta_columns, vote_columns, snapshot_columns}
 
 -- a query of each row of a tree
 abbrev pub query_of : ℕ → List Term → List (Term × Key) → Query
@@ -41,6 +41,9 @@ abbrev votes_query : Query
 votes_query =
     query_of 1 (col 1 0 ∷ col 1 2 ∷ col 1 3 ∷ col 1 4 ∷ []) ((col 1 0, record { collation = Binary; descending = false }) ∷ [])
 
+abbrev snapshot_query : Query
+snapshot_query = query_of 2 (col 1 0 ∷ col 1 2 ∷ col 1 3 ∷ []) []
+
 pub read_meta_is : (command_of (understood store_schema read_meta_text)
     ≡ Select (record { lets = []; body = meta_query }) (codes "k" ∷ codes "version" ∷ codes "boot" ∷ codes "round" ∷ codes "node" ∷ []))
     × (reads_listing store_schema read_meta_text ≡ false)
@@ -50,6 +53,27 @@ read_meta_is = (refl, refl)
 pub read_meta_plain : IsPlain (understood store_schema read_meta_text)
 unfolding understood everything
 read_meta_plain = (refl, refl)
+
+-- in the tables of version 1
+pub read_old_meta_is : (command_of (understood old_schema read_meta_text)
+    ≡ Select (record { lets = []; body = meta_query }) (codes "k" ∷ codes "version" ∷ codes "boot" ∷ codes "round" ∷ codes "node" ∷ []))
+    × (reads_listing old_schema read_meta_text ≡ false)
+unfolding understood everything
+read_old_meta_is = (refl, refl)
+
+pub read_old_meta_plain : IsPlain (understood old_schema read_meta_text)
+unfolding understood everything
+read_old_meta_plain = (refl, refl)
+
+pub read_snapshot_is : (command_of (understood store_schema read_snapshot_text)
+    ≡ Select (record { lets = []; body = snapshot_query }) (codes "k" ∷ codes "floor" ∷ codes "bytes" ∷ []))
+    × (reads_listing store_schema read_snapshot_text ≡ false)
+unfolding understood everything
+read_snapshot_is = (refl, refl)
+
+pub read_snapshot_plain : IsPlain (understood store_schema read_snapshot_text)
+unfolding understood everything
+read_snapshot_plain = (refl, refl)
 
 pub read_votes_is : (command_of (understood store_schema read_votes_text)
     ≡ Select (record { lets = []; body = votes_query }) (codes "slot" ∷ codes "round" ∷ codes "node" ∷ codes "entry" ∷ []))
@@ -97,11 +121,33 @@ shows_meta =
     shows_rows store_schema 0 meta_query.project meta_query.order meta_columns (λ row. refl) read_meta_text _ read_meta_is read_meta_plain
     (λ db. refl)
 
+pub shows_old_meta : (old new : State) (rows : List Row) → old.now.schema ≡ old_schema → Shown read_meta_text [] old new rows
+    → IsPermutation (map meta_columns (old.now.trees 0)) rows
+shows_old_meta =
+    shows_rows old_schema 0 meta_query.project meta_query.order meta_columns (λ row. refl) read_meta_text _ read_old_meta_is read_old_meta_plain
+    (λ db. refl)
+
+pub shows_snapshot : (old new : State) (rows : List Row) → old.now.schema ≡ store_schema → Shown read_snapshot_text [] old new rows
+    → IsPermutation (map snapshot_columns (old.now.trees 2)) rows
+shows_snapshot =
+    shows_rows store_schema 2 snapshot_query.project snapshot_query.order snapshot_columns (λ row. refl) read_snapshot_text _ read_snapshot_is
+    read_snapshot_plain (λ db. refl)
+
 pub shows_votes : (old new : State) (rows : List Row) → old.now.schema ≡ store_schema → Shown read_votes_text [] old new rows
     → IsPermutation (map vote_columns (old.now.trees 1)) rows
 shows_votes =
     shows_rows store_schema 1 votes_query.project votes_query.order vote_columns (λ row. refl) read_votes_text _ read_votes_is read_votes_plain
     (λ db. refl)
+
+pub meta_plain : (s : Schema) → (s ≡ store_schema) ⊎ (s ≡ old_schema) → IsPlain (understood s read_meta_text)
+meta_plain s (inl is) = subst (λ (t : Schema). IsPlain (understood t read_meta_text)) (sym is) read_meta_plain
+meta_plain s (inr is) = subst (λ (t : Schema). IsPlain (understood t read_meta_text)) (sym is) read_old_meta_plain
+
+pub votes_plain : (s : Schema) → s ≡ store_schema → IsPlain (understood s read_votes_text)
+votes_plain s is = subst (λ (t : Schema). IsPlain (understood t read_votes_text)) (sym is) read_votes_plain
+
+pub snapshot_plain : (s : Schema) → s ≡ store_schema → IsPlain (understood s read_snapshot_text)
+snapshot_plain s is = subst (λ (t : Schema). IsPlain (understood t read_snapshot_text)) (sym is) read_snapshot_plain
 
 -- a query changes nothing
 pub shown_unchanged : (sql : List ℕ) (params : Row) (old new : State) (rows : List Row) → IsPlain (understood old.now.schema sql) → Shown sql params old new rows

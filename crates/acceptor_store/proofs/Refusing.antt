@@ -83,6 +83,18 @@ pub below_damage : (e : KeeperFault) → (e ≡ Damaged) ⊎ ((e ≡ Memory) ⊎
 below_damage e (inl d) = below_unspelled {P = Unit {0}} e (inr (d, tt))
 below_damage e (inr conn) = below_conn e conn
 
+pub below_judged : (e : KeeperFault) → (e ≡ Version) ⊎ (e ≡ Damaged) → LiesBelow e
+below_judged e (inl v) =
+    (λ is. let both : Version ≡ Failed = sym v ∙ is in absurd cc, λ is. let both : Version ≡ Boots = sym v ∙ is in absurd cc)
+below_judged e (inr d) = below_unspelled {P = Unit {0}} e (inr (d, tt))
+
+-- a refusal of the connection is no judgement
+pub conn_is_none : {P : Type 0} (e : KeeperFault) → (e ≡ Memory) ⊎ (e ≡ Store) → (e ≡ Damaged) ⊎ (e ≡ Version) → P
+conn_is_none e (inl m) (inl d) = let both : Memory ≡ Damaged = sym m ∙ d in absurd cc
+conn_is_none e (inl m) (inr v) = let both : Memory ≡ Version = sym m ∙ v in absurd cc
+conn_is_none e (inr s) (inl d) = let both : Store ≡ Damaged = sym s ∙ d in absurd cc
+conn_is_none e (inr s) (inr v) = let both : Store ≡ Version = sym s ∙ v in absurd cc
+
 -- damage is of this version
 pub damage_is_old : {P : Type 0} (e : KeeperFault) → (e ≡ Damaged) ⊎ ((e ≡ Memory) ⊎ (e ≡ Store)) → e ≡ Version → P
 damage_is_old e (inl d) h = let both : Damaged ≡ Version = sym d ∙ h in absurd cc
@@ -116,11 +128,15 @@ module _ {B : Type 0} (reading : List ℕ → Reading B) where
   pub held_stored : (db : Database) (rows : Rows B) → Reads reading db rows → stored_in reading db.trees ≡ Ok rows
   held_stored db rows has =
       let shown = shown_in db.trees in
-      loads reading db.trees shown (record { metas = IsPermutation-refl shown.metas; votes = IsPermutation-refl shown.votes }) rows has.1.has
+      loads reading db.trees shown (record {
+        metas = IsPermutation-refl shown.metas;
+        votes = IsPermutation-refl shown.votes;
+        snapshots = IsPermutation-refl shown.snapshots;
+      }) rows has.1.has
 
   pub held_told : (db : Database) (rows : Rows B) (e : KeeperFault) → Reads reading db rows → Tells reading db e → Refuses ⊥ e
-  held_told db rows Damaged has t = let a = held_stored db rows has in let b = t has.0 in absurd cc
-  held_told db rows Version has t = let a = held_stored db rows has in let b = t.1 in absurd cc
+  held_told db rows Damaged has t = let a = held_stored db rows has in let b = t.1 has.0 in absurd cc
+  held_told db rows Version has t = let a = held_stored db rows has in absurd (let b = rw t.1 at a in cc)
   held_told db rows Boots has t = t
   held_told db rows Store has t = tt
   held_told db rows Memory has t = tt

@@ -16,7 +16,7 @@ use Rattle.sqlite_rules.specs.Lists.{Has}
 use Rattle.sqlite_rules.specs.Keys.{AreConflicts, conflicts}
 use Rattle.sqlite_rules.specs.Calls.{ids_of}
 use Rattle.sqlite_rules.specs.Edit.{is_taken, without_all}
-use Rattle.acceptor_store.specs.Store.{key_of}
+use Rattle.acceptor_store.specs.Statements.{key_of}
 
 or_parts : (b c : Bool) → b || c ≡ false → (b ≡ false) × (c ≡ false)
 or_parts true c h = absurd cc
@@ -65,18 +65,18 @@ not_taken (r ∷ rs) n x free (inr k) = not_taken rs n x (or_parts _ _ free).1 k
 
 -- those of a tree without some rowids
 
-has_filtered : (p : Row → Bool) (rows : List Row) (x : Row) → Has (filter p rows) x → Has rows x
+pub has_filtered : {A : Type 0} (p : A → Bool) (rows : List A) (x : A) → Has (filter p rows) x → Has rows x × (p x ≡ true)
 has_filtered p [] x h = absurd h
-has_filtered p (r ∷ rs) x h = go (p r) h (has_filtered p rs x)
+has_filtered {A} p (r ∷ rs) x h = go (p r) refl h (has_filtered p rs x)
   where
-    go : (b : Bool) → Has (cond b (r ∷ filter p rs) (filter p rs)) x → (Has (filter p rs) x → Has rs x) → Has (r ∷ rs) x
-    go true (inl e) more = inl e
-    go true (inr k) more = inr (more k)
-    go false k more = inr (more k)
+    go : (b : Bool) → p r ≡ b → Has (cond b (r ∷ filter p rs) (filter p rs)) x → (Has (filter p rs) x → Has rs x × (p x ≡ true)) → Has (r ∷ rs) x × (p x ≡ true)
+    go true e (inl same) more = (inl same, ap p same ∙ e)
+    go true e (inr k) more = let m = more k in (inr m.0, m.1)
+    go false e k more = let m = more k in (inr m.0, m.1)
 
-filter_keeps : (p : Row → Bool) (rows : List Row) (x : Row) → Has rows x → p x ≡ true → Has (filter p rows) x
+pub filter_keeps : {A : Type 0} (p : A → Bool) (rows : List A) (x : A) → Has rows x → p x ≡ true → Has (filter p rows) x
 filter_keeps p [] x h t = absurd h
-filter_keeps p (r ∷ rs) x h t = go (p r) refl h (λ k. filter_keeps p rs x k t)
+filter_keeps {A} p (r ∷ rs) x h t = go (p r) refl h (λ k. filter_keeps p rs x k t)
   where
     go : (b : Bool) → p r ≡ b → Has (r ∷ rs) x → (Has rs x → Has (filter p rs) x) → Has (cond b (r ∷ filter p rs) (filter p rs)) x
     go true e (inl same) more = inl same
@@ -86,7 +86,7 @@ filter_keeps p (r ∷ rs) x h t = go (p r) refl h (λ k. filter_keeps p rs x k t
 
 pub has_left : (ids : List ℤ) (rows : List Row) (x : Row) → Has (without_all rows ids) x → Has rows x
 has_left [] rows x h = h
-has_left (i ∷ ids) rows x h = has_filtered _ rows x (has_left ids (without_rowid i rows) x h)
+has_left (i ∷ ids) rows x h = (has_filtered _ rows x (has_left ids (without_rowid i rows) x h)).0
 
 pub left_has : (ids : List ℤ) (rows : List Row) (x : Row) → Has rows x → AllByRecursion (λ i. has_rowid i x ≡ false) ids → Has (without_all rows ids) x
 left_has [] rows x h apart = h
@@ -102,7 +102,7 @@ all_filtered k p (r ∷ rs) h = go (p r) (all_filtered k p rs h.1)
     go true more = (h.0, more)
     go false more = more
 
-once_filtered : (p : Row → Bool) (rows : List Row) → IsDistinct (λ m n. eqb m n) (map key_of rows) → IsDistinct (λ m n. eqb m n) (map key_of (filter p rows))
+pub once_filtered : (p : Row → Bool) (rows : List Row) → IsDistinct (λ m n. eqb m n) (map key_of rows) → IsDistinct (λ m n. eqb m n) (map key_of (filter p rows))
 unfolding IsDistinct
 once_filtered p [] h = tt
 once_filtered p (r ∷ rs) h = go (p r) (once_filtered p rs h.1)

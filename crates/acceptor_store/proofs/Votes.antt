@@ -1,13 +1,14 @@
 -- Votes by ascending slot, and a vote that is put among them.
-use Rattle.std.proofs.Common.{◌≡◌, ◌⊎◌, inl, inr, ℕ, ◌<◌, ◌≤◌, Bool, true, false, cond, List, [], ◌∷◌, Some, is_some, ⊎_elim, ltb, eqb, refl, ap, sym, ◌∙◌, subst, arith}
+use Rattle.std.proofs.Common.{◌≡◌, ◌⊎◌, inl, inr, ℕ, suc, ◌<◌, ◌≤◌, Bool, true, false, cond, List, [], ◌∷◌, Some, is_some, ⊎_elim, ltb, eqb, filter, refl, ap, sym, ◌∙◌, subst, arith}
+use Rattle.std.specs.Prelude.{nat_le}
 use Rattle.std.specs.List.{AllByRecursion}
-use Rattle.std.proofs.lemmas.Bool.{ltb-true, eqb-true}
+use Rattle.std.proofs.lemmas.Bool.{ltb-true, leb-true, eqb-true}
 use Rattle.std.proofs.lemmas.Bool.Decides.{nat_tests}
 use Rattle.sqlite_rules.specs.Lists.{Has}
-use Rattle.paxos_packets.specs.Vote.{put_vote, vote_in}
+use Rattle.paxos_packets.specs.Vote.{put_vote, vote_in, votes_from}
 use Rattle.paxos_packets.specs.declared.vote.Vote.{Vote}
 use Rattle.acceptor_store.specs.Store.{AscendFrom}
-use Rattle.acceptor_store.specs.Once.{later}
+use Rattle.acceptor_store.specs.Once.{later, ascend_lower}
 
 pub all_from : {A : Type 0} (P : A → Type 0) (xs : List A) → ((x : A) → Has xs x → P x) → AllByRecursion P xs
 all_from P [] f = tt
@@ -21,10 +22,6 @@ below_or a b e l = grind (arith, nat_tests)
 
 eq_false : (a b : ℕ) → eqb a b ≡ false → b ≡ a → ⊥
 eq_false a b e p = grind (arith, nat_tests)
-
-pub ascend_lower : {B : Type 0} (low less : ℕ) (vs : List (Vote B)) → less ≤ low → AscendFrom low vs → AscendFrom less vs
-ascend_lower low less [] l up = tt
-ascend_lower low less (v ∷ vs) l up = (let k : low < v.slot = up.0 in omega arith, up.1)
 
 pub has_put_new : {B : Type 0} (v : Vote B) (ws : List (Vote B)) → Has (put_vote v ws) v
 has_put_new v [] = inl refl
@@ -82,6 +79,26 @@ ascend_put {B} v low (w ∷ ws) up l = go (eqb v.slot w.slot) (ltb v.slot w.slot
     go true b e k more = (l, subst (λ s. AscendFrom s ws) (sym (eqb-true v.slot w.slot e)) up.1)
     go false true e k more = (l, (ltb-true v.slot w.slot k, up.1))
     go false false e k more = (up.0, more (below_or v.slot w.slot e (lt_false v.slot w.slot k)))
+
+-- the votes that pass a test, and those that are above a slot
+
+pub ascend_filter : {B : Type 0} (p : Vote B → Bool) (low : ℕ) (vs : List (Vote B)) → AscendFrom low vs → AscendFrom low (filter p vs)
+ascend_filter p low [] up = tt
+ascend_filter {B} p low (v ∷ vs) up = go (p v) (ascend_filter p v.slot vs up.1)
+  where
+    go : (b : Bool) → AscendFrom v.slot (filter p vs) → AscendFrom low (cond b (v ∷ filter p vs) (filter p vs))
+    go true more = (up.0, more)
+    go false more = ascend_lower v.slot low (filter p vs) (let k : low < v.slot = up.0 in omega arith) more
+
+pub ascend_above : {B : Type 0} (floor low : ℕ) (vs : List (Vote B)) → AscendFrom low vs → AscendFrom floor (votes_from (suc floor) vs)
+ascend_above floor low [] up = tt
+ascend_above {B} floor low (v ∷ vs) up =
+    go (nat_le (suc floor) v.slot) refl (ascend_filter (λ (w : Vote B). nat_le (suc floor) w.slot) v.slot vs up.1) (ascend_above floor v.slot vs up.1)
+  where
+    go : (b : Bool) → nat_le (suc floor) v.slot ≡ b → AscendFrom v.slot (votes_from (suc floor) vs) → AscendFrom floor (votes_from (suc floor) vs)
+        → AscendFrom floor (cond b (v ∷ votes_from (suc floor) vs) (votes_from (suc floor) vs))
+    go true e kept more = (let k : suc floor ≤ v.slot = leb-true (suc floor) v.slot e in omega arith, kept)
+    go false e kept more = more
 
 -- a slot without a vote
 pub none_in : {B : Type 0} (slot : ℕ) (vs : List (Vote B)) → is_some (vote_in slot vs) ≡ false → (x : Vote B) → Has vs x → x.slot ≡ slot → ⊥

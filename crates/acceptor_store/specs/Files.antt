@@ -10,12 +10,12 @@ use Rattle.sqlite.specs.Files.{HoldsDatabase, over_files}
 use Rattle.paxos_packets.specs.declared.rows.Rows.{Rows}
 use Rattle.command_codec.specs.Number.{Reading}
 use Rattle.store_keeper.specs.Keeper.{no_rows}
-use Rattle.acceptor_store.specs.Store.{Kept, Stores, Holds}
+use Rattle.acceptor_store.specs.Store.{Kept, HasStored, Holds}
 
 module _ {D : Type 0} {g : Ghosts D} {B : Type 0} (reading : List ℕ → Reading B) where
   pub record HoldsImage (image : Image) (k : Kept (FileStore D g)) : Type 0 where
-    -- if they held a store that has these rows, they are held
-    pub stored : (db : Trees) → HoldsDatabase image db → (rows : Rows B) → Stores reading db rows → Holds over_files reading k rows
+    -- if they held a store, of this version or the one before it, that has these rows, they are held
+    pub stored : (db : Trees) → HoldsDatabase image db → (rows : Rows B) → HasStored reading db rows → Holds over_files reading k rows
     -- if the database file was empty, no boot, no promise and no vote
     pub nothing : image.db ≡ [] → Holds over_files reading k no_rows
 

@@ -1,4 +1,4 @@
--- The tables of the store, version 1 (docs/CONSENSUS.md, "The store"), and the statements on them.
+-- The tables of the store, version 2 (docs/CONSENSUS.md, "The store"), those of version 1, and the statements on them.
 use Rattle.std.specs.Prelude.{ℕ, pos, Bool, true, false, List, [], ◌∷◌, Some, codes}
 use Rattle.sqlite_value.specs.declared.keys.Collation.TheVariants.{Binary}
 use Rattle.sqlite_value.specs.declared.value.Value.TheVariants.{Null, Int, Blob as Octets}
@@ -43,12 +43,17 @@ vote_table = table_of (codes "vote") 1
     (column_of (codes "slot") Integer false ∷ column_of (codes "round") Integer true ∷ column_of (codes "node") Integer true
     ∷ column_of (codes "entry") Blob true ∷ [])
 
--- the tables beside `meta`
-abbrev pub other_tables : List Table
-other_tables = vote_table ∷ []
+-- one row: the floor, and the octets of the snapshot at it
+abbrev pub snapshot_table : Table
+snapshot_table = table_of (codes "snapshot") 2
+    (column_of (codes "k") Integer false ∷ column_of (codes "floor") Integer true ∷ column_of (codes "bytes") Blob true ∷ [])
+
+-- the tables of version 1
+abbrev pub old_tables : List Table
+old_tables = meta_table ∷ vote_table ∷ []
 
 abbrev pub store_tables : List Table
-store_tables = meta_table ∷ other_tables
+store_tables = meta_table ∷ vote_table ∷ snapshot_table ∷ []
 
 -- a schema that has these tables, and nothing else
 abbrev pub schema_of : List Table → Schema
@@ -56,6 +61,10 @@ schema_of tables = record { tables = tables; indexes = []; views = [] }
 
 abbrev pub store_schema : Schema
 store_schema = schema_of store_tables
+
+-- that of version 1
+abbrev pub old_schema : Schema
+old_schema = schema_of old_tables
 
 abbrev pub empty_schema : Schema
 empty_schema = schema_of []
@@ -66,11 +75,21 @@ create_meta_text = codes "CREATE TABLE meta (k INTEGER PRIMARY KEY, version INTE
 abbrev pub create_vote_text : List ℕ
 create_vote_text = codes "CREATE TABLE vote (slot INTEGER PRIMARY KEY, round INTEGER NOT NULL, node INTEGER NOT NULL, entry BLOB NOT NULL) STRICT"
 
+abbrev pub create_snapshot_text : List ℕ
+create_snapshot_text = codes "CREATE TABLE snapshot (k INTEGER PRIMARY KEY, floor INTEGER NOT NULL, bytes BLOB NOT NULL) STRICT"
+
 abbrev pub put_meta_text : List ℕ
-put_meta_text = codes "INSERT OR REPLACE INTO meta VALUES (1, 1, ?1, ?2, ?3)"
+put_meta_text = codes "INSERT OR REPLACE INTO meta VALUES (1, 2, ?1, ?2, ?3)"
 
 abbrev pub put_vote_text : List ℕ
 put_vote_text = codes "INSERT OR REPLACE INTO vote VALUES (?1, ?2, ?3, ?4)"
+
+abbrev pub put_snapshot_text : List ℕ
+put_snapshot_text = codes "INSERT OR REPLACE INTO snapshot VALUES (1, ?1, ?2)"
+
+-- the votes up to a slot
+abbrev pub delete_votes_text : List ℕ
+delete_votes_text = codes "DELETE FROM vote WHERE slot <= ?1"
 
 abbrev pub read_meta_text : List ℕ
 read_meta_text = codes "SELECT k, version, boot, round, node FROM meta"
@@ -78,12 +97,18 @@ read_meta_text = codes "SELECT k, version, boot, round, node FROM meta"
 abbrev pub read_votes_text : List ℕ
 read_votes_text = codes "SELECT slot, round, node, entry FROM vote ORDER BY slot"
 
+abbrev pub read_snapshot_text : List ℕ
+read_snapshot_text = codes "SELECT k, floor, bytes FROM snapshot"
+
 -- rows as they are stored: the rowid is before the columns, and its own column is NULL
 abbrev pub meta_row : ℕ → ℕ → ℕ → Row
-meta_row boot round node = Int (pos 1) ∷ Null ∷ Int (pos 1) ∷ Int (pos boot) ∷ Int (pos round) ∷ Int (pos node) ∷ []
+meta_row boot round node = Int (pos 1) ∷ Null ∷ Int (pos 2) ∷ Int (pos boot) ∷ Int (pos round) ∷ Int (pos node) ∷ []
 
 abbrev pub vote_row : ℕ → ℕ → ℕ → List ℕ → Row
 vote_row slot round node entry = Int (pos slot) ∷ Null ∷ Int (pos round) ∷ Int (pos node) ∷ Octets entry ∷ []
+
+abbrev pub snapshot_row : ℕ → List ℕ → Row
+snapshot_row floor octets = Int (pos 1) ∷ Null ∷ Int (pos floor) ∷ Octets octets ∷ []
 
 -- and as they are shown
 abbrev pub meta_columns : Row → Row
@@ -91,3 +116,6 @@ meta_columns row = column row 0 ∷ column row 2 ∷ column row 3 ∷ column row
 
 abbrev pub vote_columns : Row → Row
 vote_columns row = column row 0 ∷ column row 2 ∷ column row 3 ∷ column row 4 ∷ []
+
+abbrev pub snapshot_columns : Row → Row
+snapshot_columns row = column row 0 ∷ column row 2 ∷ column row 3 ∷ []

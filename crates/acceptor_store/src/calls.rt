@@ -1,5 +1,5 @@
 // The calls of a keeper, over its session.
-ghost use Rattle.std.specs.Prelude.{◌≡◌, ◌⊎◌, ◌<◌, ◌≤◌, ◌-◌, ◌^◌, ◌≢◌, Some, [], IsTrue, IfOk, IfErr, OnOk, IsErrOf, true, false};
+ghost use Rattle.std.specs.Prelude.{◌≡◌, ◌⊎◌, ◌<◌, ◌≤◌, ◌-◌, ◌^◌, ◌≢◌, Some, None, [], IsTrue, IfOk, IfErr, OnOk, IsErrOf, true, false};
 ghost use Rattle.std.specs.List.{AllByRecursion};
 ghost use Rattle.sqlite_trees.specs.Tree.{Trees};
 ghost use Rattle.sqlite_trees.specs.View.{doubt};
@@ -10,24 +10,25 @@ ghost use Rattle.paxos_packets.specs.Rows.{last_boot, raised};
 ghost use Rattle.paxos_packets.specs.declared.rows.Rows.{Rows};
 ghost use Rattle.paxos_acceptor.specs.Acceptor.{adopted};
 ghost use Rattle.store_keeper.specs.Keeper.{no_rows};
-ghost use Rattle.acceptor_store.specs.Tables.{empty_schema};
+ghost use Rattle.acceptor_store.specs.Tables.{empty_schema, old_schema};
 ghost use Rattle.acceptor_store.specs.Statements.{IsFounded};
-ghost use Rattle.acceptor_store.specs.Store.{Stores, Leaves, LeavesOr, written, Follows, NotLowered};
+ghost use Rattle.acceptor_store.specs.Store.{Stores, StoresOld, HasStored, Leaves, LeavesOr, written, Follows};
 ghost use Rattle.store_rows.specs.Numbers.{numbers_in_rows, are_numbers, is_ballot};
 ghost use Rattle.store_rows.specs.Changes.{is_placed};
-ghost use Rattle.acceptor_store.specs.Calls.{HeldBy, WhenHeld};
+ghost use Rattle.acceptor_store.specs.Calls.{HeldBy, WhenHeld, Readies};
 ghost use Rattle.store_rows.specs.Faults.{LiesBelow};
 ghost use Rattle.acceptor_store.specs.Answers.{Gives, Tells, Refuses, IsUnfit, are_spelled, has_place};
 
 use crate::session::Session;
-use crate::store::{commit_rows, found_store, read_store, settle};
-use crate::tables::is_empty;
+use crate::statements::read_meta;
+use crate::store::{commit_rows, found_store, read_store, renew_store, settle};
+use crate::tables::{has_old_tables, is_empty};
 use command_codec::Coder;
-use paxos_packets::{Body, Change, Rows, Vote, Votes};
+use paxos_packets::{Body, Change, Rows, Snapshot, Vote, Votes};
 use sqlite::{Alter, Connection};
 use std::alloc::Global;
 use store_keeper::KeeperFault;
-use store_rows::{Numbers, numbers_after, raise_boot};
+use store_rows::{Numbers, numbers_after, old_numbers, raise_boot};
 
 // Makes the tables of an empty database.
 fn found_anew<B, C: Coder<B>, S: Alter>(conn: &mut Connection<S>) -> Result<(), KeeperFault>
@@ -44,34 +45,70 @@ fn found_anew<B, C: Coder<B>, S: Alter>(conn: &mut Connection<S>) -> Result<(), 
     Ok(())
 }
 
-// Makes the tables, if the database is empty.
-pub(crate) fn found_where_empty<B, C: Coder<B>, S: Alter>(
+// Makes the tables of version 1 those of this version.
+fn renew<B, C: Coder<B>, S: Alter>(
+    conn: &mut Connection<S>,
+    numbers: &Numbers,
+) -> Result<(), KeeperFault>
+    requires alone { conn.old.in_transaction ≡ false }
+    requires numbers { are_numbers numbers.now ≡ true }
+    ensures alone { conn.new.in_transaction ≡ false }
+    ensures renewed { IsTrue (state S.Store conn.old).is_open → (rows : Rows B) → StoresOld C.reading (state S.Store conn.old).committed.trees rows
+        → numbers.now ≡ numbers_in_rows rows → HasCleanDisk (state S.Store conn.new) → OnOk result (Leaves C.reading (state S.Store conn.new) rows) }
+    ensures crash { Survives (state S.Store conn.old) (state S.Store conn.new)
+        (λ trees. (db : Database) × (IsTrue (state S.Store conn.old).is_open → (rows : Rows B) → StoresOld C.reading (state S.Store conn.old).committed.trees rows
+        → numbers.now ≡ numbers_in_rows rows → Stores C.reading db.trees rows) × (trees ≡ db.trees)) }
+    ensures fault { IfErr result (λ e. (e ≡ KeeperFault.Memory) ⊎ (e ≡ KeeperFault.Store)) }
+{
+    settle(conn); // for the proof
+    renew_store::<B, C, S>(conn, numbers)?;
+    settle(conn); // for the proof
+    Ok(())
+}
+
+// Makes the tables of version 1 those of this version, if `meta` has one row of that version; leaves them as they are otherwise.
+fn renew_where_old<B, C: Coder<B>, S: Alter>(conn: &mut Connection<S>) -> Result<(), KeeperFault>
+    requires alone { conn.old.in_transaction ≡ false }
+    requires tables { conn.old.schema ≡ old_schema }
+    ensures alone { conn.new.in_transaction ≡ false }
+    ensures renewed { IsTrue (state S.Store conn.old).is_open → (rows : Rows B) → StoresOld C.reading (state S.Store conn.old).committed.trees rows
+        → HasCleanDisk (state S.Store conn.new) → OnOk result (Leaves C.reading (state S.Store conn.new) rows) }
+    ensures crash { Survives (state S.Store conn.old) (state S.Store conn.new)
+        (λ trees. (db : Database) × (IsTrue (state S.Store conn.old).is_open → (rows : Rows B) → StoresOld C.reading (state S.Store conn.old).committed.trees rows
+        → Stores C.reading db.trees rows) × (trees ≡ db.trees)) }
+    ensures fault { IfErr result (λ e. (e ≡ KeeperFault.Memory) ⊎ (e ≡ KeeperFault.Store)) }
+{
+    settle(conn); // for the proof
+    let metas = read_meta(conn)?;
+    let Some(numbers) = old_numbers(metas.as_slice()) else {
+        return Ok(());
+    };
+    renew::<B, C, S>(conn, &numbers)
+}
+
+// Makes the tables, if the database is empty, and those of version 1 those of this version.
+pub(crate) fn make_ready<B, C: Coder<B>, S: Alter>(
+    alloc: Global,
     conn: &mut Connection<S>,
 ) -> Result<(), KeeperFault>
     requires { conn.old.in_transaction ≡ false }
     ensures alone { conn.new.in_transaction ≡ false }
     ensures founded { conn.old.schema ≡ empty_schema → HasCleanDisk (state S.Store conn.new)
         → OnOk result (Leaves C.reading (state S.Store conn.new) no_rows) }
-    ensures again { IsTrue (state S.Store conn.old).is_open → (rows : Rows B) → Stores C.reading (state S.Store conn.old).committed.trees rows
-        → OnOk result (Leaves C.reading (state S.Store conn.new) rows) }
+    ensures again { IsTrue (state S.Store conn.old).is_open → (rows : Rows B) → HasStored C.reading (state S.Store conn.old).committed.trees rows
+        → HasCleanDisk (state S.Store conn.new) → OnOk result (Leaves C.reading (state S.Store conn.new) rows) }
     ensures crash { Survives (state S.Store conn.old) (state S.Store conn.new)
-        (λ trees. (db : Database) × (conn.old.schema ≡ empty_schema → IsFounded db) × (trees ≡ db.trees)) }
+        (λ trees. (db : Database) × Readies C.reading (state S.Store conn.old) db × (trees ≡ db.trees)) }
     ensures fault { IfErr result (λ e. (e ≡ KeeperFault.Memory) ⊎ (e ≡ KeeperFault.Store)) }
 {
     settle(conn); // for the proof
     if is_empty(conn.schema()) {
         return found_anew::<B, C, S>(conn);
     }
-    Ok(())
-}
-
-// Returns the numbers among the rows.
-fn numbers_in<B>(rows: &Rows<B>) -> Numbers
-    ensures { result ≡ numbers_in_rows rows.now }
-{
-    Numbers {
-        boot: rows.boot,
-        promised: rows.promised,
+    match has_old_tables(alloc, conn.schema()) {
+        Ok(true) => renew_where_old::<B, C, S>(conn),
+        Ok(false) => Ok(()),
+        Err(_) => Err(KeeperFault::Memory),
     }
 }
 
@@ -89,7 +126,7 @@ fn read<B: Body, C: Coder<B>, S: Alter>(session: &mut Session<S>) -> Result<Rows
 {
     settle(&session.conn); // for the proof
     let rows = read_store::<B, C, S>(session.alloc, &mut session.conn)?;
-    session.known = Some(numbers_in(&rows));
+    session.known = Some(Numbers::of(&rows));
     Ok(rows)
 }
 
@@ -107,21 +144,30 @@ fn numbers<B: Body, C: Coder<B>, S: Alter>(session: &mut Session<S>) -> Result<N
     }
     settle(&session.conn); // for the proof
     let rows = read::<B, C, S>(session)?;
-    Ok(numbers_in(&rows))
+    Ok(Numbers::of(&rows))
 }
 
-// Returns whether these are the same numbers.
+// Returns whether the boot number and the promise are the same.
 fn are_same(left: &Numbers, right: &Numbers) -> bool
-    ensures { IsTrue result → left.now ≡ right.now }
+    ensures { IsTrue result → (left.now.boot ≡ right.now.boot) × (left.now.promised ≡ right.now.promised) }
 {
-    left == right
+    left.boot == right.boot && left.promised == right.promised
 }
 
-// Commits the votes, and the numbers if they differ from those that are known.
+// Returns whether there is neither a snapshot nor a vote.
+fn is_nothing<B>(snapshot: &Option<Snapshot>, votes: &[Vote<B>]) -> bool
+    ensures nothing { IsTrue result → (snapshot.now ≡ None) × (votes.now ≡ []) }
+    ensures something { result ≡ false → (snapshot.now ≢ None) ⊎ (votes.now ≢ []) }
+{
+    snapshot.is_none() && votes.is_empty()
+}
+
+// Commits the votes, the snapshot if there is a new one, and the numbers if they differ from those that are known.
 fn commit_over<B, C: Coder<B>, S: Alter>(
     conn: &mut Connection<S>,
     known: &Numbers,
     numbers: &Numbers,
+    snapshot: &Option<Snapshot>,
     votes: &[Vote<B>],
     octets: &mut Vec<u8>,
 ) -> Result<(), KeeperFault>
@@ -130,12 +176,14 @@ fn commit_over<B, C: Coder<B>, S: Alter>(
     requires ballots { AllByRecursion (λ v. is_ballot v.ballot ≡ true) votes.now }
     ensures alone { conn.new.in_transaction ≡ false }
     ensures ok { HasCleanDisk (state S.Store conn.new) → (rows : Rows B) → Leaves C.reading (state S.Store conn.old) rows
-        → known.now ≡ numbers_in_rows rows → NotLowered rows.promised numbers.now.promised → AllByRecursion (λ v. is_placed numbers.now.promised v ≡ true) votes.now
-        → OnOk result (Leaves C.reading (state S.Store conn.new) (written numbers.now votes.now rows)) }
+        → known.now ≡ numbers_in_rows rows → Follows true rows numbers.now snapshot.now
+        → AllByRecursion (λ v. is_placed numbers.now.promised numbers.now.floor v ≡ true) votes.now
+        → OnOk result (Leaves C.reading (state S.Store conn.new) (written numbers.now snapshot.now votes.now rows)) }
     ensures found { HasCleanDisk (state S.Store conn.new) → (rows : Rows B) → Leaves C.reading (state S.Store conn.old) rows
-        → known.now ≡ numbers_in_rows rows → NotLowered rows.promised numbers.now.promised → AllByRecursion (λ v. is_placed numbers.now.promised v ≡ true) votes.now
+        → known.now ≡ numbers_in_rows rows → Follows true rows numbers.now snapshot.now
+        → AllByRecursion (λ v. is_placed numbers.now.promised numbers.now.floor v ≡ true) votes.now
         → (trees : Trees) → (state S.Store conn.new).may_leave trees
-        → (state S.Store conn.old).may_leave trees ⊎ Stores C.reading trees (written numbers.now votes.now rows) }
+        → (state S.Store conn.old).may_leave trees ⊎ Stores C.reading trees (written numbers.now snapshot.now votes.now rows) }
     ensures clean { doubt (state S.Store conn.old).is_clean ≤ doubt (state S.Store conn.new).is_clean }
     ensures spelled { OnOk result (are_spelled C.spelling votes.now ≡ true) }
     ensures refused { IfErr result (Refuses (are_spelled C.spelling votes.now ≡ false)) }
@@ -143,12 +191,12 @@ fn commit_over<B, C: Coder<B>, S: Alter>(
     ensures fault { IfErr result LiesBelow }
 {
     if !are_same(numbers, known) {
-        return commit_rows::<B, C, S>(conn, true, numbers, votes, octets);
+        return commit_rows::<B, C, S>(conn, true, numbers, snapshot, votes, octets);
     }
-    if votes.is_empty() {
+    if is_nothing(snapshot, votes) {
         return Ok(());
     }
-    commit_rows::<B, C, S>(conn, false, numbers, votes, octets)
+    commit_rows::<B, C, S>(conn, false, numbers, snapshot, votes, octets)
 }
 
 // Commits the numbers.
@@ -161,17 +209,17 @@ fn put_numbers<B: Body, C: Coder<B>, S: Alter>(
     requires alone { conn.old.in_transaction ≡ false }
     requires numbers { are_numbers numbers.now ≡ true }
     ensures alone { conn.new.in_transaction ≡ false }
-    ensures ok { HasCleanDisk (state S.Store conn.new) → (rows : Rows B) → Leaves C.reading (state S.Store conn.old) rows → Follows true rows numbers.now
-        → OnOk result (Leaves C.reading (state S.Store conn.new) (written numbers.now [] rows)) }
-    ensures found { HasCleanDisk (state S.Store conn.new) → (rows : Rows B) → Leaves C.reading (state S.Store conn.old) rows → Follows true rows numbers.now
+    ensures ok { HasCleanDisk (state S.Store conn.new) → (rows : Rows B) → Leaves C.reading (state S.Store conn.old) rows → Follows true rows numbers.now None
+        → OnOk result (Leaves C.reading (state S.Store conn.new) (written numbers.now None [] rows)) }
+    ensures found { HasCleanDisk (state S.Store conn.new) → (rows : Rows B) → Leaves C.reading (state S.Store conn.old) rows → Follows true rows numbers.now None
         → (trees : Trees) → (state S.Store conn.new).may_leave trees
-        → (state S.Store conn.old).may_leave trees ⊎ Stores C.reading trees (written numbers.now [] rows) }
+        → (state S.Store conn.old).may_leave trees ⊎ Stores C.reading trees (written numbers.now None [] rows) }
     ensures clean { doubt (state S.Store conn.old).is_clean ≤ doubt (state S.Store conn.new).is_clean }
     ensures whole { IfErr result (Refuses ⊥) }
     ensures fault { IfErr result LiesBelow }
 {
     let none: Votes<B> = Votes::new(alloc);
-    commit_rows::<B, C, S>(conn, true, numbers, none.as_slice(), octets)
+    commit_rows::<B, C, S>(conn, true, numbers, &None, none.as_slice(), octets)
 }
 
 // Commits the change, if it has a place.
@@ -197,6 +245,7 @@ fn write<B: Body, C: Coder<B>, S: Alter>(
         &mut session.conn,
         &before,
         &next,
+        &change.snapshot,
         change.votes.as_slice(),
         &mut session.octets,
     )?;
@@ -218,7 +267,7 @@ fn raise<B: Body, C: Coder<B>, S: Alter>(session: &mut Session<S>) -> Result<Row
 {
     let mut rows = read::<B, C, S>(session)?;
     raise_boot(&mut rows)?;
-    let numbers = numbers_in(&rows);
+    let numbers = Numbers::of(&rows);
     put_numbers::<B, C, S>(
         session.alloc,
         &mut session.conn,

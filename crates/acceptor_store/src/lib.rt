@@ -1,4 +1,4 @@
-//! An acceptor's rows in a SQLite file (Lamport 2001, section 2.5: stable storage): two tables that any `sqlite3` reads, and one
+//! An acceptor's rows in a SQLite file (Lamport 2001, section 2.5: stable storage): three tables that any `sqlite3` reads, and one
 //! transaction for each commit.
 #![tactic(auto)]
 

@@ -8,13 +8,13 @@ ghost use Rattle.paxos_packets.specs.declared.rows.Rows.{Rows};
 ghost use Rattle.store_keeper.specs.Keeper.{no_rows, FindsOr, FindsNoMore};
 ghost use Rattle.paxos_acceptor.specs.Acceptor.{adopted};
 ghost use Rattle.acceptor_store.specs.Tables.{empty_schema};
-ghost use Rattle.acceptor_store.specs.Statements.{IsFounded};
+ghost use Rattle.acceptor_store.specs.Calls.{Readies};
 ghost use Rattle.acceptor_store.specs.Once.{stored_once};
-ghost use Rattle.acceptor_store.specs.Store.{Stores, Holds, Finds, LeavesRows};
+ghost use Rattle.acceptor_store.specs.Store.{Stores, HasStored, Holds, Finds, LeavesRows};
 ghost use Rattle.store_rows.specs.Numbers.{numbers_in_rows};
 ghost use Rattle.acceptor_store.specs.Answers.{Gives, Tells, Refuses, has_place};
 
-use crate::calls::{boot_from, commit_to, found_where_empty, load_from};
+use crate::calls::{boot_from, commit_to, load_from, make_ready};
 use crate::session::Session;
 use crate::store::settle;
 use command_codec::Coder;
@@ -24,7 +24,7 @@ use std::alloc::Global;
 use std::marker::{Model, PhantomData};
 use store_keeper::{Keeper, KeeperFault};
 
-/// A keeper whose rows are two tables of a SQLite database, with one transaction for each commit.
+/// A keeper whose rows are three tables of a SQLite database, with one transaction for each commit.
 ///
 /// It knows the numbers of `meta` from its last read or commit, and keeps one buffer for the octets of an entry; it holds no votes.
 pub struct SqlKeeper<B, C: Coder<B>, S: Alter> {
@@ -56,11 +56,12 @@ impl<B, C: Coder<B>, S: Alter + Drop> Drop for SqlKeeper<B, C, S> {
 }
 
 impl<B: Body, C: Coder<B>, S: Alter> SqlKeeper<B, C, S> {
-    /// Opens a keeper over the database of this connection, and makes the two tables if the database is empty. It judges nothing else;
-    /// `load` does. SQLite's own open has read each page, so opening takes time linear in the file as a whole; this call itself takes none.
+    /// Opens a keeper over the database of this connection. Makes the three tables if the database is empty, and adds the third to those of
+    /// version 1, without a snapshot, if `meta` has one row of that version: each in one transaction. It judges nothing else; `load` does.
+    /// SQLite's own open has read each page, so opening takes time linear in the file as a whole; this call itself takes none.
     ///
-    /// After a fault, `Store` or `Memory`, the connection is handed back, and the database is still empty, or has the two tables. A connection
-    /// inside a transaction is handed back as it is, with `Store`.
+    /// After a fault, `Store` or `Memory`, the connection is handed back, and the database is as it was, or has the three tables, and the rows
+    /// that it had. A connection inside a transaction is handed back as it is, with `Store`.
     pub fn open(
         alloc: Global,
         conn: Connection<S>,
@@ -68,19 +69,19 @@ impl<B: Body, C: Coder<B>, S: Alter> SqlKeeper<B, C, S> {
         ensures fresh { IfOk result (λ k. (k.is_failed ≡ false) × (k.failures ≡ 0) × (k.known ≡ None)) }
         ensures founded { IfOk result (λ k. conn.schema ≡ empty_schema → Holds S.Store C.reading k no_rows) }
         ensures again { IfOk result (λ k. (rows : Rows B) → IsTrue (state S.Store conn).is_open
-            → Stores C.reading (state S.Store conn).committed.trees rows → Holds S.Store C.reading k rows) }
+            → HasStored C.reading (state S.Store conn).committed.trees rows → Holds S.Store C.reading k rows) }
         ensures fault { IfErr result (λ e. (e.0 ≡ KeeperFault.Memory) ⊎ (e.0 ≡ KeeperFault.Store)) }
         ensures clean { IfOk result (λ k. doubt (state S.Store conn).is_clean ≤ doubt (state S.Store k.conn).is_clean) }
         ensures alone { conn.in_transaction ≡ false → IfErr result (λ e. e.1.in_transaction ≡ false) }
         ensures refused { conn.in_transaction ≡ true → result ≡ Err (KeeperFault.Store, conn) }
         ensures left { IfErr result (λ e. Survives (state S.Store conn) (state S.Store e.1)
-            (λ trees. (db : Database) × (conn.schema ≡ empty_schema → IsFounded db) × (trees ≡ db.trees))) }
+            (λ trees. (db : Database) × Readies C.reading (state S.Store conn) db × (trees ≡ db.trees))) }
     {
         let mut conn = conn;
         if !conn.is_autocommit() {
             return Err((KeeperFault::Store, conn));
         }
-        match found_where_empty::<B, C, S>(&mut conn) {
+        match make_ready::<B, C, S>(alloc, &mut conn) {
             Ok(()) => Ok(SqlKeeper {
                 session: Session {
                     alloc,
@@ -132,8 +133,10 @@ impl<B: Body, C: Coder<B>, S: Alter> Keeper<B> for SqlKeeper<B, C, S> {
 
     /// Reads each table in one pass; a row is dropped as it is read. If the connection is shut, the fault is `Store`, not damage.
     ///
-    /// `Version` exactly if the version is not 1; `Damaged` exactly if the tables are not the store's, `meta` does not have just one row,
-    /// of k 1, a number is out of range, an entry cannot be read, two votes have one slot, or a vote is above the promise.
+    /// `Version` exactly if `meta` has one row, of k 1 and of a version other than 1 and 2, in the tables of version 2 or 1; otherwise
+    /// `Damaged` exactly if the tables are not those of version 2, `meta` does not have just one row, of k 1 and version 2, or `snapshot` just
+    /// one, of k 1, a number is out of range, the snapshot's octets do not begin with its floor, an entry cannot be read, two votes have one
+    /// slot, or a vote is above the promise, or not above the floor.
     fn load(&mut self) -> Result<Rows<B>, KeeperFault>
         ensures gives { HasCleanDisk (state S.Store self.new.conn) → IfOk result (Gives C.reading (state S.Store self.old.conn).now) }
         ensures tells { HasCleanDisk (state S.Store self.new.conn) → IfErr result (Tells C.reading (state S.Store self.old.conn).now) }
@@ -157,11 +160,13 @@ impl<B: Body, C: Coder<B>, S: Alter> Keeper<B> for SqlKeeper<B, C, S> {
     }
 
     /// Commits in one transaction and one sync, with a statement for `meta` if the promise changes and one for each vote, which takes the
-    /// place of the one in its slot. Reads no table (except in the first commit of a keeper that has loaded nothing yet): takes time
-    /// logarithmic in the votes stored, and memory for one entry. An empty change touches nothing.
+    /// place of the one in its slot; for a snapshot two come first: its row, and one that deletes the votes up to its floor. Reads no table
+    /// (except in the first commit of a keeper that has loaded nothing yet, and that of a snapshot): takes time logarithmic in the votes
+    /// stored, linear in the octets of a snapshot and in the votes that it deletes, and memory for one entry, or for these. An empty change
+    /// touches nothing.
     ///
-    /// `Damaged` exactly if the change has no place over the rows that are held: a lowered promise, a number out of range, a vote above the
-    /// promise, or an entry without a spelling. The store is then as it was.
+    /// `Damaged` exactly if the change has no place over the rows that are held: a lowered promise, a floor that is lowered or repeated, a
+    /// number out of range, a vote above the promise, or not above the floor, or an entry without a spelling. The store is then as it was.
     fn commit(&mut self, change: &Change<B>) -> Result<(), KeeperFault>
         ensures placed { HasCleanDisk (state S.Store self.new.conn) → (r : Rows B) → Holds S.Store C.reading self.old r
             → OnOk result (has_place C.spelling (numbers_in_rows r) change.now ≡ true) }

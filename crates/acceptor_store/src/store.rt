@@ -1,32 +1,39 @@
 // What is made, read and committed over a connection, one transaction for each change.
-ghost use Rattle.std.specs.Prelude.{is_some, ◌≡◌, ◌≢◌, ◌⊎◌, ◌<◌, ◌≤◌, [], true, false, IsTrue, OnOk, IfOk, IfErr, IsErrOf, Ok, Err, None};
+ghost use Rattle.std.specs.Prelude.{is_some, ◌≡◌, ◌≢◌, ◌⊎◌, ◌↔◌, ◌<◌, ◌≤◌, ℕ, suc, [], true, false, IsTrue, OnOk, IfOk, IfErr, IsErrOf, Ok, Err, Some, None};
+ghost use Rattle.std.specs.Option.{option_or};
 ghost use Rattle.std.specs.List.{AllByRecursion};
 ghost use Rattle.sqlite_trees.specs.Tree.{Trees};
 ghost use Rattle.sqlite_trees.specs.View.{doubt};
 ghost use Rattle.sqlite.specs.Effect.{Database};
 ghost use Rattle.sqlite.specs.Held.{state};
 ghost use Rattle.sqlite.specs.State.{HasCleanDisk, IsLive, Survives, Shows};
-ghost use Rattle.paxos_packets.specs.Vote.{put_vote, put_votes};
+ghost use Rattle.paxos_packets.specs.Rows.{kept_votes};
+ghost use Rattle.paxos_packets.specs.Snapshot.{floor_in};
+ghost use Rattle.paxos_packets.specs.Vote.{put_vote, put_votes, votes_from};
 ghost use Rattle.paxos_packets.specs.declared.rows.Rows.{Rows};
 ghost use Rattle.paxos_packets.specs.declared.vote.Vote.{Vote};
 ghost use Rattle.command_codec.specs.Entry.{entry_reading, entry_spelling};
-ghost use Rattle.acceptor_store.specs.Tables.{store_schema, empty_schema};
+ghost use Rattle.acceptor_store.specs.Tables.{store_schema, old_schema, empty_schema};
 ghost use Rattle.acceptor_store.specs.Statements.{IsFounded};
 ghost use Rattle.store_rows.specs.Faults.{LiesBelow};
-ghost use Rattle.acceptor_store.specs.Answers.{Gives, Tells, Refuses, IsUnfit, are_spelled};
-ghost use Rattle.acceptor_store.specs.Store.{Reads, written, Leaves, Follows, GoesOn, Wrote, Stores};
+ghost use Rattle.acceptor_store.specs.Answers.{Gives, HasOtherVersion, Tells, Refuses, IsUnfit, are_spelled};
+ghost use Rattle.acceptor_store.specs.Store.{Reads, written, Leaves, Follows, GoesOn, Wrote, Stores, StoresOld};
 ghost use Rattle.store_rows.specs.Numbers.{numbers_in_rows, is_ballot, are_numbers};
-ghost use Rattle.store_rows.specs.Changes.{is_placed};
+ghost use Rattle.store_rows.specs.Changes.{is_placed, floor_after};
+ghost use Rattle.store_rows.specs.Rows.{is_other_version};
 
-use crate::statements::{fault_of, make_tables, put_meta, put_vote, read_tables};
-use crate::tables::has_store_tables;
+use crate::statements::{
+    Read, fault_of, forget_votes, make_tables, put_meta, put_snapshot, put_vote, read_meta,
+    read_tables, renew_tables,
+};
+use crate::tables::{has_old_tables, has_store_tables};
 use command_codec::laws::spellings_are_apart;
 use command_codec::{CodecFault, Coder, Entry, put_entry};
-use paxos_packets::{Body, Rows, Vote};
-use sqlite::{Alter, Connection, Transaction};
+use paxos_packets::{Body, Floor, Rows, Snapshot, Vote};
+use sqlite::{Alter, Connection, Row, Transaction};
 use std::alloc::Global;
 use store_keeper::KeeperFault;
-use store_rows::{Numbers, read_rows};
+use store_rows::{Numbers, is_other_version, read_rows};
 
 // Does nothing. Its contract says what a connection is known to be between two calls.
 pub(crate) fn settle<S: Alter>(conn: &Connection<S>)
@@ -67,7 +74,7 @@ fn write_vote<B, C: Coder<B>, S: Alter>(
     requires { is_ballot vote.now.ballot ≡ true }
     ensures same_reference { tx.new.conn.ghost_name ≡ tx.old.conn.ghost_name }
     ensures put { HasCleanDisk (state S.Store tx.new.conn.now) → IsTrue (state S.Store tx.old.conn.now).in_transaction
-        → (rows : Rows B) → Reads C.reading (state S.Store tx.old.conn.now).now rows → is_placed rows.promised vote.now ≡ true
+        → (rows : Rows B) → Reads C.reading (state S.Store tx.old.conn.now).now rows → is_placed rows.promised (floor_in rows.snapshot) vote.now ≡ true
         → OnOk result (Reads C.reading (state S.Store tx.new.conn.now).now (record rows { votes = put_vote vote.now rows.votes })) }
     ensures goes { HasCleanDisk (state S.Store tx.new.conn.now) → IsTrue (state S.Store tx.old.conn.now).in_transaction
         → OnOk result (GoesOn (Unit {0}) (state S.Store tx.old.conn.now) (state S.Store tx.new.conn.now)) }
@@ -90,7 +97,7 @@ fn write_votes<B, C: Coder<B>, S: Alter>(
     ensures same_reference { tx.new.conn.ghost_name ≡ tx.old.conn.ghost_name }
     ensures put { HasCleanDisk (state S.Store tx.new.conn.now) → IsTrue (state S.Store tx.old.conn.now).in_transaction
         → (rows : Rows B) → Reads C.reading (state S.Store tx.old.conn.now).now rows
-        → AllByRecursion (λ v. is_placed rows.promised v ≡ true) votes.now
+        → AllByRecursion (λ v. is_placed rows.promised (floor_in rows.snapshot) v ≡ true) votes.now
         → OnOk result (Reads C.reading (state S.Store tx.new.conn.now).now (record rows { votes = put_votes votes.now rows.votes })) }
     ensures goes { HasCleanDisk (state S.Store tx.new.conn.now) → IsTrue (state S.Store tx.old.conn.now).in_transaction
         → OnOk result (GoesOn (votes.now ≢ []) (state S.Store tx.old.conn.now) (state S.Store tx.new.conn.now)) }
@@ -105,6 +112,51 @@ fn write_votes<B, C: Coder<B>, S: Alter>(
     Ok(())
 }
 
+// Puts the snapshot, and forgets the votes up to its floor.
+fn put_cut<B, C: Coder<B>, S: Alter>(
+    tx: &mut Transaction<'_, S>,
+    snapshot: &Snapshot,
+) -> Result<(), KeeperFault>
+    ensures same_reference { tx.new.conn.ghost_name ≡ tx.old.conn.ghost_name }
+    ensures put { HasCleanDisk (state S.Store tx.new.conn.now) → IsTrue (state S.Store tx.old.conn.now).in_transaction
+        → (rows : Rows B) → Reads C.reading (state S.Store tx.old.conn.now).now rows → floor_after (floor_in rows.snapshot) (Some snapshot.now) ≡ Some snapshot.now.floor
+        → OnOk result (Reads C.reading (state S.Store tx.new.conn.now).now
+        (record rows { snapshot = Some snapshot.now; votes = votes_from (suc snapshot.now.floor) rows.votes })) }
+    ensures goes { HasCleanDisk (state S.Store tx.new.conn.now) → IsTrue (state S.Store tx.old.conn.now).in_transaction
+        → OnOk result (GoesOn (Unit {0}) (state S.Store tx.old.conn.now) (state S.Store tx.new.conn.now)) }
+    ensures survives { Survives (state S.Store tx.old.conn.now) (state S.Store tx.new.conn.now) (λ _. ⊥) }
+    ensures fault { IfErr result (λ e. (e ≡ KeeperFault.Memory) ⊎ (e ≡ KeeperFault.Store)) }
+    ensures below { IfErr result LiesBelow }
+{
+    let floor = Floor::at(snapshot.floor());
+    put_snapshot(tx, floor, snapshot.octets())?;
+    forget_votes::<B, C, S>(tx, floor)
+}
+
+// Puts the snapshot, if there is one, and forgets the votes up to its floor.
+fn write_snapshot<B, C: Coder<B>, S: Alter>(
+    tx: &mut Transaction<'_, S>,
+    snapshot: &Option<Snapshot>,
+) -> Result<(), KeeperFault>
+    ensures same_reference { tx.new.conn.ghost_name ≡ tx.old.conn.ghost_name }
+    ensures put { HasCleanDisk (state S.Store tx.new.conn.now) → IsTrue (state S.Store tx.old.conn.now).in_transaction
+        → (rows : Rows B) → Reads C.reading (state S.Store tx.old.conn.now).now rows
+        → (floor : ℕ) → floor_after (floor_in rows.snapshot) snapshot.now ≡ Some floor
+        → OnOk result (Reads C.reading (state S.Store tx.new.conn.now).now
+        (record rows { snapshot = option_or snapshot.now rows.snapshot; votes = kept_votes snapshot.now rows.votes })) }
+    ensures goes { HasCleanDisk (state S.Store tx.new.conn.now) → IsTrue (state S.Store tx.old.conn.now).in_transaction
+        → OnOk result (GoesOn (snapshot.now ≢ None) (state S.Store tx.old.conn.now) (state S.Store tx.new.conn.now)) }
+    ensures survives { Survives (state S.Store tx.old.conn.now) (state S.Store tx.new.conn.now) (λ _. ⊥) }
+    ensures idle { snapshot.now ≡ None → tx.new.conn.now ≡ tx.old.conn.now }
+    ensures fault { IfErr result (λ e. (e ≡ KeeperFault.Memory) ⊎ (e ≡ KeeperFault.Store)) }
+    ensures below { IfErr result LiesBelow }
+{
+    match snapshot {
+        Some(snapshot) => put_cut::<B, C, S>(tx, snapshot),
+        None => Ok(()),
+    }
+}
+
 // Puts the numbers, if they are to be put.
 fn write_numbers<B, C: Coder<B>, S: Alter>(
     tx: &mut Transaction<'_, S>,
@@ -114,8 +166,8 @@ fn write_numbers<B, C: Coder<B>, S: Alter>(
     requires { are_numbers numbers.now ≡ true }
     ensures same_reference { tx.new.conn.ghost_name ≡ tx.old.conn.ghost_name }
     ensures put { HasCleanDisk (state S.Store tx.new.conn.now) → IsTrue (state S.Store tx.old.conn.now).in_transaction
-        → (rows : Rows B) → Reads C.reading (state S.Store tx.old.conn.now).now rows → Follows puts rows numbers.now
-        → OnOk result (Reads C.reading (state S.Store tx.new.conn.now).now (written numbers.now [] rows)) }
+        → (rows : Rows B) → Reads C.reading (state S.Store tx.old.conn.now).now rows → Follows puts rows numbers.now None
+        → OnOk result (Reads C.reading (state S.Store tx.new.conn.now).now (written numbers.now None [] rows)) }
     ensures goes { HasCleanDisk (state S.Store tx.new.conn.now) → IsTrue (state S.Store tx.old.conn.now).in_transaction
         → OnOk result (GoesOn (puts ≡ true) (state S.Store tx.old.conn.now) (state S.Store tx.new.conn.now)) }
     ensures survives { Survives (state S.Store tx.old.conn.now) (state S.Store tx.new.conn.now) (λ _. ⊥) }
@@ -129,22 +181,23 @@ fn write_numbers<B, C: Coder<B>, S: Alter>(
     Ok(())
 }
 
-// Puts the numbers and the votes.
+// Puts the snapshot, the numbers and the votes.
 fn write<B, C: Coder<B>, S: Alter>(
     tx: &mut Transaction<'_, S>,
     puts: bool,
     numbers: &Numbers,
+    snapshot: &Option<Snapshot>,
     votes: &[Vote<B>],
     octets: &mut Vec<u8>,
 ) -> Result<(), KeeperFault>
-    requires something { (puts ≡ true) ⊎ (votes.now ≢ []) }
+    requires something { (puts ≡ true) ⊎ ((snapshot.now ≢ None) ⊎ (votes.now ≢ [])) }
     requires numbers { are_numbers numbers.now ≡ true }
     requires ballots { AllByRecursion (λ v. is_ballot v.ballot ≡ true) votes.now }
     ensures same_reference { tx.new.conn.ghost_name ≡ tx.old.conn.ghost_name }
     ensures put { HasCleanDisk (state S.Store tx.new.conn.now) → IsTrue (state S.Store tx.old.conn.now).in_transaction
-        → (rows : Rows B) → Reads C.reading (state S.Store tx.old.conn.now).now rows → Follows puts rows numbers.now
-        → AllByRecursion (λ v. is_placed numbers.now.promised v ≡ true) votes.now
-        → OnOk result (Reads C.reading (state S.Store tx.new.conn.now).now (written numbers.now votes.now rows)) }
+        → (rows : Rows B) → Reads C.reading (state S.Store tx.old.conn.now).now rows → Follows puts rows numbers.now snapshot.now
+        → AllByRecursion (λ v. is_placed numbers.now.promised numbers.now.floor v ≡ true) votes.now
+        → OnOk result (Reads C.reading (state S.Store tx.new.conn.now).now (written numbers.now snapshot.now votes.now rows)) }
     ensures goes { HasCleanDisk (state S.Store tx.new.conn.now) → IsTrue (state S.Store tx.old.conn.now).in_transaction
         → OnOk result (GoesOn (Unit {0}) (state S.Store tx.old.conn.now) (state S.Store tx.new.conn.now)) }
     ensures survives { Survives (state S.Store tx.old.conn.now) (state S.Store tx.new.conn.now) (λ _. ⊥) }
@@ -152,6 +205,7 @@ fn write<B, C: Coder<B>, S: Alter>(
     ensures refused { IfErr result (Refuses (are_spelled C.spelling votes.now ≡ false)) }
     ensures below { IfErr result LiesBelow }
 {
+    write_snapshot::<B, C, S>(tx, snapshot)?;
     write_numbers::<B, C, S>(tx, puts, numbers)?;
     write_votes::<B, C, S>(tx, votes, octets)
 }
@@ -170,32 +224,33 @@ fn end<S: Alter>(tx: Transaction<'_, S>) -> Result<(), KeeperFault>
     }
 }
 
-// Commits the votes, and the numbers if they are to be put, in one transaction.
+// Commits the votes, the snapshot if there is a new one, and the numbers if they are to be put, in one transaction.
 pub(crate) fn commit<B, C: Coder<B>, S: Alter>(
     conn: &mut Connection<S>,
     puts: bool,
     numbers: &Numbers,
+    snapshot: &Option<Snapshot>,
     votes: &[Vote<B>],
     octets: &mut Vec<u8>,
 ) -> Result<(), KeeperFault>
     requires alone { conn.old.in_transaction ≡ false }
-    requires something { (puts ≡ true) ⊎ (votes.now ≢ []) }
+    requires something { (puts ≡ true) ⊎ ((snapshot.now ≢ None) ⊎ (votes.now ≢ [])) }
     requires numbers { are_numbers numbers.now ≡ true }
     requires ballots { AllByRecursion (λ v. is_ballot v.ballot ≡ true) votes.now }
     ensures alone { conn.new.in_transaction ≡ false }
     ensures ok { HasCleanDisk (state S.Store conn.new)
         → OnOk result (IsTrue (state S.Store conn.old).is_open × IsTrue (state S.Store conn.new).is_open
-        × Wrote C.reading puts numbers.now votes.now (state S.Store conn.old).now (state S.Store conn.new).committed) }
+        × Wrote C.reading puts numbers.now snapshot.now votes.now (state S.Store conn.old).now (state S.Store conn.new).committed) }
     ensures crash { Survives (state S.Store conn.old) (state S.Store conn.new)
         (λ trees. IsTrue (state S.Store conn.old).is_open
-        × ((db : Database) × Wrote C.reading puts numbers.now votes.now (state S.Store conn.old).now db × (trees ≡ db.trees))) }
+        × ((db : Database) × Wrote C.reading puts numbers.now snapshot.now votes.now (state S.Store conn.old).now db × (trees ≡ db.trees))) }
     ensures spelled { OnOk result (are_spelled C.spelling votes.now ≡ true) }
     ensures refused { IfErr result (Refuses (are_spelled C.spelling votes.now ≡ false)) }
     ensures kept { IsErrOf result KeeperFault.Damaged → Survives (state S.Store conn.old) (state S.Store conn.new) (λ _. ⊥) }
     ensures below { IfErr result LiesBelow }
 {
     let mut tx = conn.transaction();
-    write::<B, C, S>(&mut tx, puts, numbers, votes, octets)?;
+    write::<B, C, S>(&mut tx, puts, numbers, snapshot, votes, octets)?;
     end(tx)
 }
 
@@ -211,6 +266,27 @@ pub(crate) fn found_store<S: Alter>(conn: &mut Connection<S>) -> Result<(), Keep
 {
     let mut tx = conn.transaction();
     make_tables(&mut tx)?;
+    end(tx)
+}
+
+// Makes the tables of version 1 those of this version, in one transaction.
+pub(crate) fn renew_store<B, C: Coder<B>, S: Alter>(
+    conn: &mut Connection<S>,
+    numbers: &Numbers,
+) -> Result<(), KeeperFault>
+    requires alone { conn.old.in_transaction ≡ false }
+    requires numbers { are_numbers numbers.now ≡ true }
+    ensures alone { conn.new.in_transaction ≡ false }
+    ensures ok { HasCleanDisk (state S.Store conn.new) → (state S.Store conn.old).now.schema ≡ old_schema
+        → (rows : Rows B) → StoresOld C.reading (state S.Store conn.old).now.trees rows → numbers.now ≡ numbers_in_rows rows
+        → OnOk result (IsTrue (state S.Store conn.new).is_open × Reads C.reading (state S.Store conn.new).committed rows) }
+    ensures crash { Survives (state S.Store conn.old) (state S.Store conn.new)
+        (λ trees. (db : Database) × ((state S.Store conn.old).now.schema ≡ old_schema → (rows : Rows B) → StoresOld C.reading (state S.Store conn.old).now.trees rows
+        → numbers.now ≡ numbers_in_rows rows → Reads C.reading db rows) × (trees ≡ db.trees)) }
+    ensures fault { IfErr result (λ e. (e ≡ KeeperFault.Memory) ⊎ (e ≡ KeeperFault.Store)) }
+{
+    let mut tx = conn.transaction();
+    renew_tables::<B, C, S>(&mut tx, numbers)?;
     end(tx)
 }
 
@@ -246,8 +322,54 @@ pub(crate) fn read_store<B: Body, C: Coder<B>, S: Alter>(
 {
     match has_store_tables(alloc, conn.schema()) {
         Ok(true) => read_in_tables::<B, C, S>(alloc, conn),
-        Ok(false) => Err(damage(conn)),
+        Ok(false) => Err(judge(alloc, conn)),
         Err(_) => Err(KeeperFault::Memory),
+    }
+}
+
+// Returns the fault for tables that are not those of this version: another version if they are those of version 1 and `meta` says so,
+// otherwise damage.
+fn judge<S: Alter>(alloc: Global, conn: &mut Connection<S>) -> KeeperFault
+    requires { conn.old.schema ≢ store_schema }
+    ensures mode { conn.old.in_transaction ≡ false → conn.new.in_transaction ≡ false }
+    ensures open { HasCleanDisk (state S.Store conn.new) → (result ≡ KeeperFault.Damaged) ⊎ (result ≡ KeeperFault.Version) → IsTrue (state S.Store conn.old).is_open }
+    ensures version { HasCleanDisk (state S.Store conn.new) → result ≡ KeeperFault.Version → HasOtherVersion (state S.Store conn.old).now }
+    ensures damaged { HasCleanDisk (state S.Store conn.new) → result ≡ KeeperFault.Damaged → ¬ HasOtherVersion (state S.Store conn.old).now }
+    ensures survives { Survives (state S.Store conn.old) (state S.Store conn.new) (λ _. ⊥) }
+    ensures below { LiesBelow result }
+{
+    match has_old_tables(alloc, conn.schema()) {
+        Ok(true) => judge_old(conn),
+        Ok(false) => damage(conn),
+        Err(_) => KeeperFault::Memory,
+    }
+}
+
+// Returns the fault for the tables of version 1: another version if `meta` says so, otherwise damage.
+fn judge_old<S: Alter>(conn: &mut Connection<S>) -> KeeperFault
+    requires { conn.old.schema ≡ old_schema }
+    ensures mode { conn.old.in_transaction ≡ false → conn.new.in_transaction ≡ false }
+    ensures open { HasCleanDisk (state S.Store conn.new) → (result ≡ KeeperFault.Damaged) ⊎ (result ≡ KeeperFault.Version) → IsTrue (state S.Store conn.old).is_open }
+    ensures version { HasCleanDisk (state S.Store conn.new) → result ≡ KeeperFault.Version → HasOtherVersion (state S.Store conn.old).now }
+    ensures damaged { HasCleanDisk (state S.Store conn.new) → result ≡ KeeperFault.Damaged → ¬ HasOtherVersion (state S.Store conn.old).now }
+    ensures survives { Survives (state S.Store conn.old) (state S.Store conn.new) (λ _. ⊥) }
+    ensures below { LiesBelow result }
+{
+    match read_meta(conn) {
+        Ok(metas) => version_or_damage(metas.as_slice()),
+        Err(fault) => fault,
+    }
+}
+
+// Returns the fault for rows of `meta` that are not read.
+fn version_or_damage(metas: &[Row]) -> KeeperFault
+    ensures version { (result ≡ KeeperFault.Version) ↔ (is_other_version metas.now ≡ true) }
+    ensures fault { (result ≡ KeeperFault.Version) ⊎ (result ≡ KeeperFault.Damaged) }
+{
+    if is_other_version(metas) {
+        KeeperFault::Version
+    } else {
+        KeeperFault::Damaged
     }
 }
 
@@ -269,9 +391,14 @@ fn read_in_tables<B: Body, C: Coder<B>, S: Alter>(
     ensures below { IfErr result LiesBelow }
     ensures numbers { IfOk result (λ rows. are_numbers (numbers_in_rows rows) ≡ true) }
 {
-    let (metas, votes) = read_tables(conn)?;
+    let read = read_tables(conn)?;
     settle(conn); // for the proof
-    read_rows::<B, C>(alloc, metas.as_slice(), votes)
+    let Read {
+        metas,
+        votes,
+        snapshots,
+    } = read;
+    read_rows::<B, C>(alloc, metas.as_slice(), votes, snapshots.as_slice())
 }
 
 // Commits as `commit` does; its contract speaks of rows: those that are left after it, and those that a crash leaves of it.
@@ -279,21 +406,22 @@ pub(crate) fn commit_rows<B, C: Coder<B>, S: Alter>(
     conn: &mut Connection<S>,
     puts: bool,
     numbers: &Numbers,
+    snapshot: &Option<Snapshot>,
     votes: &[Vote<B>],
     octets: &mut Vec<u8>,
 ) -> Result<(), KeeperFault>
     requires alone { conn.old.in_transaction ≡ false }
-    requires something { (puts ≡ true) ⊎ (votes.now ≢ []) }
+    requires something { (puts ≡ true) ⊎ ((snapshot.now ≢ None) ⊎ (votes.now ≢ [])) }
     requires numbers { are_numbers numbers.now ≡ true }
     requires ballots { AllByRecursion (λ v. is_ballot v.ballot ≡ true) votes.now }
     ensures alone { conn.new.in_transaction ≡ false }
     ensures ok { HasCleanDisk (state S.Store conn.new) → (rows : Rows B) → Leaves C.reading (state S.Store conn.old) rows
-        → Follows puts rows numbers.now → AllByRecursion (λ v. is_placed numbers.now.promised v ≡ true) votes.now
-        → OnOk result (Leaves C.reading (state S.Store conn.new) (written numbers.now votes.now rows)) }
+        → Follows puts rows numbers.now snapshot.now → AllByRecursion (λ v. is_placed numbers.now.promised numbers.now.floor v ≡ true) votes.now
+        → OnOk result (Leaves C.reading (state S.Store conn.new) (written numbers.now snapshot.now votes.now rows)) }
     ensures found { HasCleanDisk (state S.Store conn.new) → (rows : Rows B) → Leaves C.reading (state S.Store conn.old) rows
-        → Follows puts rows numbers.now → AllByRecursion (λ v. is_placed numbers.now.promised v ≡ true) votes.now
+        → Follows puts rows numbers.now snapshot.now → AllByRecursion (λ v. is_placed numbers.now.promised numbers.now.floor v ≡ true) votes.now
         → (trees : Trees) → (state S.Store conn.new).may_leave trees
-        → (state S.Store conn.old).may_leave trees ⊎ Stores C.reading trees (written numbers.now votes.now rows) }
+        → (state S.Store conn.old).may_leave trees ⊎ Stores C.reading trees (written numbers.now snapshot.now votes.now rows) }
     ensures clean { doubt (state S.Store conn.old).is_clean ≤ doubt (state S.Store conn.new).is_clean }
     ensures spelled { OnOk result (are_spelled C.spelling votes.now ≡ true) }
     ensures refused { IfErr result (Refuses (are_spelled C.spelling votes.now ≡ false)) }
@@ -301,7 +429,7 @@ pub(crate) fn commit_rows<B, C: Coder<B>, S: Alter>(
     ensures below { IfErr result LiesBelow }
 {
     settle(conn); // for the proof
-    commit::<B, C, S>(conn, puts, numbers, votes, octets)?;
+    commit::<B, C, S>(conn, puts, numbers, snapshot, votes, octets)?;
     settle(conn); // for the proof
     Ok(())
 }

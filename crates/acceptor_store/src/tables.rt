@@ -1,6 +1,6 @@
 // How a database's tables are judged: whether they are the store's.
 ghost use Rattle.std.specs.Prelude.{◌≡◌, ◌↔◌, [], ◌∷◌, IsTrue, IfOk};
-ghost use Rattle.acceptor_store.specs.Tables.{column_of, table_of, meta_table, vote_table, store_schema, empty_schema};
+ghost use Rattle.acceptor_store.specs.Tables.{column_of, table_of, meta_table, vote_table, snapshot_table, store_schema, old_schema, empty_schema};
 
 use sqlite_schema::code::Terms;
 use sqlite_schema::schema::{Column, Kind, Schema, Stamps, Table};
@@ -113,9 +113,46 @@ fn is_vote(alloc: Global, table: &Table) -> Result<bool, AllocError>
     }
 }
 
+// Returns whether these are the columns of the third table.
+fn are_snapshot_columns(k: &Column, floor: &Column, octets: &Column) -> bool
+    ensures { IsTrue result ↔ (k.now ∷ floor.now ∷ octets.now ∷ [] ≡ snapshot_table.columns) }
+{
+    is_column(k, b"k".as_slice(), Kind::Integer, false)
+        && is_column(floor, b"floor".as_slice(), Kind::Integer, true)
+        && is_column(octets, b"bytes".as_slice(), Kind::Blob, true)
+}
+
+// Returns whether it is the store's third table.
+fn is_snapshot(alloc: Global, table: &Table) -> Result<bool, AllocError>
+    ensures { IfOk result (λ is. IsTrue is ↔ (table.now ≡ snapshot_table)) }
+{
+    if !is_plain(alloc, table, b"snapshot".as_slice(), 2)? {
+        return Ok(false);
+    }
+    match table.columns.as_slice() {
+        [k, floor, octets] => Ok(are_snapshot_columns(k, floor, octets)),
+        _ => Ok(false),
+    }
+}
+
 // Returns whether the tables are the store's, and there is nothing else.
 pub(crate) fn has_store_tables(alloc: Global, schema: &Schema) -> Result<bool, AllocError>
     ensures { IfOk result (λ has. IsTrue has ↔ (schema.now ≡ store_schema)) }
+{
+    if !schema.indexes.is_empty() || !schema.views.is_empty() {
+        return Ok(false);
+    }
+    match schema.tables.as_slice() {
+        [meta, vote, snapshot] => Ok(
+            is_meta(alloc, meta)? && is_vote(alloc, vote)? && is_snapshot(alloc, snapshot)?,
+        ),
+        _ => Ok(false),
+    }
+}
+
+// Returns whether the tables are those of version 1, and there is nothing else.
+pub(crate) fn has_old_tables(alloc: Global, schema: &Schema) -> Result<bool, AllocError>
+    ensures { IfOk result (λ has. IsTrue has ↔ (schema.now ≡ old_schema)) }
 {
     if !schema.indexes.is_empty() || !schema.views.is_empty() {
         return Ok(false);

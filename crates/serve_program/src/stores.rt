@@ -11,7 +11,7 @@ ghost use Rattle.paxos_packets.specs.declared.rows.Rows.{Rows};
 ghost use Rattle.realm_codec.specs.Act.{act_reading};
 ghost use Rattle.store_keeper.specs.Keeper.{no_rows};
 ghost use Rattle.acceptor_store.specs.Tables.{empty_schema};
-ghost use Rattle.acceptor_store.specs.Store.{Stores as AreStored, Holds};
+ghost use Rattle.acceptor_store.specs.Store.{HasStored, Holds};
 ghost use Rattle.acceptor_store.specs.Files.{HoldsImage, HoldsFrom};
 
 use acceptor_store::SqlKeeper;
@@ -139,7 +139,7 @@ fn open_store<B: Body, C: Coder<B>, S: Alter>(
 ) -> Result<SqlKeeper<B, C, S>, (KeeperFault, Connection<S>)>
     ensures founded { IfOk result (λ k. conn.schema ≡ empty_schema → Holds S.Store C.reading k no_rows) }
     ensures again { IfOk result (λ k. (rows : Rows B) → IsTrue (state S.Store conn).is_open
-        → AreStored C.reading (state S.Store conn).committed.trees rows → Holds S.Store C.reading k rows) }
+        → HasStored C.reading (state S.Store conn).committed.trees rows → Holds S.Store C.reading k rows) }
     ensures clean { IfOk result (λ k. doubt (state S.Store conn).is_clean ≤ doubt (state S.Store k.conn).is_clean) }
 {
     SqlKeeper::open(alloc, conn)

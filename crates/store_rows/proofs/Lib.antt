@@ -1,2 +1,5 @@
 pub mod Options
-mod Within
+pub mod Within
+mod Floors
+mod Showing
+mod Examples

@@ -1,6 +1,6 @@
 -- Numbers that were read are within their ranges.
-use Rattle.std.proofs.Common.{◌≡◌, ◌≢◌, ◌∙◌, sym, ℕ, pos, negsuc, ◌&&◌, not, Bool, true, false, cond, List, [], ◌∷◌, Option, Some, None, Ok, Err, refl, subst, ◌+◌, ◌<◌, ◌≤◌, arith}
-use Rattle.std.specs.Prelude.{nat_le, option_map, option_and_then}
+use Rattle.std.proofs.Common.{◌≡◌, ◌≢◌, ◌∙◌, sym, ℕ, pos, negsuc, ◌&&◌, ◌||◌, not, Bool, true, false, cond, List, [], ◌∷◌, Option, Some, None, Result, Ok, Err, refl, subst, ◌+◌, ◌<◌, ◌≤◌, arith}
+use Rattle.std.specs.Prelude.{IfErr, nat_le, option_map, option_and_then}
 use Rattle.std.proofs.lemmas.Bool.{and_parts, and_from, le-leb}
 use Rattle.sqlite_value.specs.declared.value.Value.{Value}
 use Rattle.sqlite_value.specs.declared.value.Value.TheVariants.{Null, Int, Real, Text, Blob}
@@ -10,7 +10,7 @@ use Rattle.store_keeper.specs.declared.fault.KeeperFault.TheVariants.{Damaged, V
 use Rattle.store_rows.specs.Faults.{LiesBelow}
 use Rattle.paxos_packets.specs.declared.ballot.Ballot.{Ballot}
 use Rattle.store_rows.specs.declared.rows.Numbers.{Numbers}
-use Rattle.store_rows.specs.Rows.{number, is_number, within, boot_in, round_in, node_in, ballot_in, promise_in, numbers_of, numbers_in, or_damaged}
+use Rattle.store_rows.specs.Rows.{number, is_number, within, boot_in, round_in, node_in, ballot_in, promise_in, numbers_of, numbers_in}
 use Rattle.store_rows.specs.Numbers.{is_ballot, is_promise, are_numbers}
 use Rattle.store_rows.proofs.Options.{and_then_is, map_is}
 
@@ -44,33 +44,27 @@ promise_within round node p h = go (is_number 0 (number round) && is_number 0 (n
         let k = map_is Some (ballot_in round node) p h in
         subst (λ q. is_promise q ≡ true) k.2 (ballot_within round node k.0 k.1)
 
-found : (o : Option Numbers) (n : Numbers) → or_damaged o ≡ Ok n → o ≡ Some n
-found None n h = absurd cc
-found (Some m) n h = cc
+abbrev numbers_shown : ℕ → Row → Option Numbers
+numbers_shown floor row =
+    option_and_then (λ boot. option_map (λ promised. record { boot = boot; promised = promised; floor = floor }) (promise_in (column row 3) (column row 4))) (boot_in (column row 2))
 
-abbrev numbers_shown : Row → Option Numbers
-numbers_shown row =
-    option_and_then (λ boot. option_map (λ promised. record { boot = boot; promised = promised }) (promise_in (column row 3) (column row 4))) (boot_in (column row 2))
-
-row_within : (row : Row) (n : Numbers) → numbers_of row ≡ Ok n → are_numbers n ≡ true
-row_within row n h = go (is_number 1 (number (column row 0))) (is_number 1 (number (column row 1))) h
+row_within : (version floor : ℕ) (row : Row) (n : Numbers) → numbers_of version floor row ≡ Some n → are_numbers n ≡ true
+row_within version floor row n h = go (is_number 1 (number (column row 0))) (is_number version (number (column row 1))) h
   where
-    go : (a b : Bool) → cond (not a) (Err Damaged) (cond (not b) (Err Version)
-        (or_damaged (numbers_shown row))) ≡ Ok n
-        → are_numbers n ≡ true
+    go : (a b : Bool) → cond (not a || not b) None (numbers_shown floor row) ≡ Some n → are_numbers n ≡ true
     go false b h = absurd cc
     go true false h = absurd cc
     go true true h =
-        let boot = and_then_is _ (boot_in (column row 2)) n (found (numbers_shown row) n h) in
+        let boot = and_then_is _ (boot_in (column row 2)) n h in
         let promised = map_is _ (promise_in (column row 3) (column row 4)) n boot.2 in
         let least = and_parts (nat_le 0 boot.0) (nat_le boot.0 281474976710655) (within_bounds 0 281474976710655 (column row 2) boot.0 boot.1) in
         subst (λ m. are_numbers m ≡ true) promised.2
         (and_from (nat_le boot.0 281474976710655) (is_promise promised.0) least.1 (promise_within (column row 3) (column row 4) promised.0 promised.1))
 
-pub numbers_within : (metas : List Row) (n : Numbers) → numbers_in metas ≡ Ok n → are_numbers n ≡ true
-numbers_within [] n h = absurd cc
-numbers_within (row ∷ []) n h = row_within row n h
-numbers_within (row ∷ other ∷ rows) n h = absurd cc
+pub numbers_within : (version floor : ℕ) (metas : List Row) (n : Numbers) → numbers_in version floor metas ≡ Some n → are_numbers n ≡ true
+numbers_within version floor [] n h = absurd cc
+numbers_within version floor (row ∷ []) n h = row_within version floor row n h
+numbers_within version floor (row ∷ other ∷ rows) n h = absurd cc
 
 -- a fault that rows show is none of a keeper's own
 
@@ -86,30 +80,17 @@ damaged_below fault P h = (
       absurd cc,
 )
 
-shown_below : (row : Row) (fault : KeeperFault) → numbers_of row ≡ Err fault → LiesBelow fault
-shown_below row fault h = go (is_number 1 (number (column row 0))) (is_number 1 (number (column row 1))) (numbers_shown row) h
-  where
-    damaged : Damaged ≡ fault → LiesBelow fault
-    damaged e = damaged_below fault (Unit {0}) (λ _. (sym e, tt))
+pub version_below : LiesBelow Version
+version_below = (λ is. absurd (let e : Version ≡ Failed = is in cc), λ is. absurd (let e : Version ≡ Boots = is in cc))
 
-    other : Version ≡ fault → LiesBelow fault
-    other e = (λ is. let both : Version ≡ Failed = e ∙ is in absurd cc, λ is. let both : Version ≡ Boots = e ∙ is in absurd cc)
-
-    go : (a b : Bool) (o : Option Numbers) → cond (not a) (Err Damaged) (cond (not b) (Err Version) (or_damaged o)) ≡ Err fault → LiesBelow fault
-    go false b o h = damaged cc
-    go true false o h = other cc
-    go true true None h = damaged cc
-    go true true (Some n) h = absurd cc
-
-pub numbers_below : (metas : List Row) (fault : KeeperFault) → numbers_in metas ≡ Err fault → LiesBelow fault
-numbers_below [] fault h = let e : Damaged ≡ fault = cc in damaged_below fault (Unit {0}) (λ _. (sym e, tt))
-numbers_below (row ∷ []) fault h = shown_below row fault h
-numbers_below (row ∷ other ∷ rows) fault h = let e : Damaged ≡ fault = cc in damaged_below fault (Unit {0}) (λ _. (sym e, tt))
+pub damaged_below_err : {A : Type 0} (P : Type 0) (r : Result A KeeperFault) → IfErr r (λ fault. fault ≢ Memory → (fault ≡ Damaged) × P) → IfErr r LiesBelow
+damaged_below_err P (Ok x) h = tt
+damaged_below_err P (Err fault) h = damaged_below fault P h
 
 -- one boot more leaves the numbers within their ranges
-pub raised_within : (boot : ℕ) (promised : Option Ballot) → are_numbers (record { boot = boot; promised = promised }) ≡ true → boot < 281474976710655
-    → are_numbers (record { boot = boot + 1; promised = promised }) ≡ true
-raised_within boot promised h low =
+pub raised_within : (boot : ℕ) (promised : Option Ballot) (floor : ℕ) → are_numbers (record { boot = boot; promised = promised; floor = floor }) ≡ true
+    → boot < 281474976710655 → are_numbers (record { boot = boot + 1; promised = promised; floor = floor }) ≡ true
+raised_within boot promised floor h low =
     let parts = and_parts (nat_le boot 281474976710655) (is_promise promised) h in
     let next : boot + 1 ≤ 281474976710655 = omega arith in
     and_from (nat_le (boot + 1) 281474976710655) (is_promise promised) (le-leb (boot + 1) 281474976710655 next) parts.1

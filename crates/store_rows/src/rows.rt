@@ -1,24 +1,40 @@
-// From the rows of the two tables to the rows of an acceptor (docs/CONSENSUS.md, "The store").
-ghost use Rattle.std.specs.Prelude.{◌≡◌, ◌≢◌, true, [], Ok, Err, Some, None, option_map, option_and_then, IfOk, IfErr, OnOk};
+// From the rows of the three tables to the rows of an acceptor (docs/CONSENSUS.md, "The store").
+ghost use Rattle.std.specs.Prelude.{◌≡◌, ◌≢◌, ◌||◌, not, true, [], Ok, Err, Some, None, option_map, option_and_then, IfOk, IfErr, OnOk};
 ghost use Rattle.sqlite_value.specs.Order.{column};
-ghost use Rattle.store_rows.specs.Rows.{number, octets, within, if_within, slot_in, ballot_in, promise_in, entry_in, vote_of, is_promised, with_row, votes_after, numbers_of, numbers_in, rows_of};
+ghost use Rattle.paxos_packets.specs.Snapshot.{floor_in};
+ghost use Rattle.store_rows.specs.Rows.{number, is_number, octets, within, if_within, slot_in, floor_of, ballot_in, promise_in, entry_in, vote_of, is_promised, with_row, votes_after, is_other_version, numbers_of, numbers_in, at_floor, snapshot_at, snapshot_shown, snapshot_in, rows_with, votes_with, rows_of};
 ghost use Rattle.store_rows.specs.Numbers.{are_numbers, numbers_in_rows};
 ghost use Rattle.store_rows.specs.Faults.{LiesBelow};
 
 use command_codec::{CodecFault, Coder, take_entry};
-use paxos_packets::{Ballot, Entry, Rows, Slot, Vote, Votes};
+use paxos_packets::{Ballot, Entry, Floor, Rows, Slot, Snapshot, Vote, Votes};
 use sqlite::Row;
 use sqlite::types::ValueRef;
 use std::alloc::Global;
 use store_keeper::KeeperFault;
 
-/// The numbers that `meta` keeps beside the version.
+/// The numbers that `meta` keeps beside the version, and the floor of the snapshot.
 #[derive(Clone, Copy, Debug, PartialEq, Eq)]
 pub struct Numbers {
     /// How often the node was started, from 0.
     pub boot: u64,
     /// The greatest ballot that the node has promised, if any.
     pub promised: Option<Ballot>,
+    /// Up to which slot the snapshot gives the log.
+    pub floor: Floor,
+}
+
+impl Numbers {
+    /// Returns the numbers among the rows.
+    pub fn of<B>(rows: &Rows<B>) -> Numbers
+        ensures { result ≡ numbers_in_rows rows.now }
+    {
+        Numbers {
+            boot: rows.boot,
+            promised: rows.promised,
+            floor: floor_in(&rows.snapshot),
+        }
+    }
 }
 
 // Returns the natural number in a column.
@@ -69,32 +85,146 @@ fn promise_in(row: &Row, round: usize, node: usize) -> Option<Option<Ballot>>
     Some(Some(ballot))
 }
 
-// Returns the numbers that a row of `meta` shows: k, version, boot, round, node.
-fn numbers_of(row: &Row) -> Result<Numbers, KeeperFault>
-    ensures { result ≡ numbers_of row.now }
+// Returns whether the version in a column is neither this one nor the one before it.
+fn is_other(row: &Row, at: usize) -> bool
+    ensures { result ≡ not (is_number 1 (number (column row.now at)) || is_number 2 (number (column row.now at))) }
+{
+    !matches!(number(row, at), Some(1 | 2))
+}
+
+/// Returns whether `meta` has one row, of k 1 and of a version other than 1 and 2.
+pub fn is_other_version(metas: &[Row]) -> bool
+    ensures { result ≡ is_other_version metas.now }
+{
+    match metas {
+        [row] => number(row, 0) == Some(1) && is_other(row, 1),
+        _ => false,
+    }
+}
+
+// Returns the numbers that a row of `meta` of this version shows beside the floor: k, version, boot, round, node.
+fn numbers_of(version: u64, floor: Floor, row: &Row) -> Option<Numbers>
+    ensures { result ≡ numbers_of version floor row.now }
+{
+    if number(row, 0) != Some(1) || number(row, 1) != Some(version) {
+        return None;
+    }
+    let boot = within(row, 2, 0, 281_474_976_710_655)?;
+    let promised = promise_in(row, 3, 4)?;
+    Some(Numbers {
+        boot,
+        promised,
+        floor,
+    })
+}
+
+// Returns the numbers that the rows of `meta` show beside the floor, if there is just one row, of this version.
+fn numbers_in(version: u64, floor: Floor, rows: &[Row]) -> Option<Numbers>
+    ensures { result ≡ numbers_in version floor rows.now }
+{
+    match rows {
+        [row] => numbers_of(version, floor, row),
+        _ => None,
+    }
+}
+
+/// Returns the numbers of a store of version 1, which has no snapshot, or `None` if `meta` does not have just one row, of k 1 and version 1,
+/// or a number is out of range.
+pub fn old_numbers(metas: &[Row]) -> Option<Numbers>
+    ensures { result ≡ numbers_in 1 0 metas.now }
+{
+    numbers_in(1, Floor::none(), metas)
+}
+
+// Returns the floor in a column.
+fn floor_of(row: &Row, at: usize) -> Option<u64>
+    ensures { result ≡ floor_of (column row.now at) }
+{
+    within(row, at, 0, 1_099_511_627_775)
+}
+
+// Returns the snapshot, if it is that of this floor.
+fn at_floor(floor: u64, snapshot: Option<Snapshot>) -> Option<Option<Snapshot>>
+    ensures { result ≡ at_floor floor snapshot }
+{
+    let snapshot = snapshot?;
+    if snapshot.floor().get() != floor {
+        drop(snapshot);
+        return None;
+    }
+    Some(Some(snapshot))
+}
+
+// Returns the snapshot of these octets, which are copied, if they begin with this floor; with floor 0 there must be no octets.
+fn snapshot_at(alloc: Global, floor: u64, octets: &[u8]) -> Result<Option<Snapshot>, KeeperFault>
+    ensures snapshot { IfOk result (λ s. snapshot_at floor octets.now ≡ Some s) }
+    ensures fault { IfErr result (λ fault. fault ≢ KeeperFault.Memory
+        → (fault ≡ KeeperFault.Damaged) × (snapshot_at floor octets.now ≡ None)) }
+{
+    if floor == 0 {
+        return none_of(octets);
+    }
+    let Ok(copy) = Vec::from_slice(alloc, octets) else {
+        return Err(KeeperFault::Memory);
+    };
+    let Ok(snapshot) = Snapshot::of(copy) else {
+        return Err(KeeperFault::Memory);
+    };
+    match at_floor(floor, snapshot) {
+        Some(snapshot) => Ok(snapshot),
+        None => Err(KeeperFault::Damaged),
+    }
+}
+
+// Returns no snapshot, if there are no octets.
+fn none_of(octets: &[u8]) -> Result<Option<Snapshot>, KeeperFault>
+    ensures snapshot { IfOk result (λ s. snapshot_at 0 octets.now ≡ Some s) }
+    ensures fault { IfErr result (λ fault. (fault ≡ KeeperFault.Damaged) × (snapshot_at 0 octets.now ≡ None)) }
+{
+    if octets.is_empty() {
+        Ok(None)
+    } else {
+        Err(KeeperFault::Damaged)
+    }
+}
+
+// Returns the snapshot that a row of `snapshot` shows, or none: k, floor, octets.
+fn snapshot_shown(alloc: Global, row: &Row) -> Result<Option<Snapshot>, KeeperFault>
+    ensures snapshot { IfOk result (λ s. snapshot_shown row.now ≡ Some s) }
+    ensures fault { IfErr result (λ fault. fault ≢ KeeperFault.Memory
+        → (fault ≡ KeeperFault.Damaged) × (snapshot_shown row.now ≡ None)) }
 {
     if number(row, 0) != Some(1) {
         return Err(KeeperFault::Damaged);
     }
-    if number(row, 1) != Some(1) {
-        return Err(KeeperFault::Version);
-    }
-    let Some(boot) = within(row, 2, 0, 281_474_976_710_655) else {
+    let Some(floor) = floor_of(row, 1) else {
         return Err(KeeperFault::Damaged);
     };
-    let Some(promised) = promise_in(row, 3, 4) else {
+    let Some(octets) = octets(row, 2) else {
         return Err(KeeperFault::Damaged);
     };
-    Ok(Numbers { boot, promised })
+    snapshot_at(alloc, floor, octets)
 }
 
-// Returns the numbers that the rows of `meta` show, of which there must be just one.
-fn numbers_in(rows: &[Row]) -> Result<Numbers, KeeperFault>
-    ensures { result ≡ numbers_in rows.now }
+// Returns the snapshot that the rows of `snapshot` show, of which there must be just one.
+fn snapshot_in(alloc: Global, rows: &[Row]) -> Result<Option<Snapshot>, KeeperFault>
+    ensures snapshot { IfOk result (λ s. snapshot_in rows.now ≡ Some s) }
+    ensures fault { IfErr result (λ fault. fault ≢ KeeperFault.Memory
+        → (fault ≡ KeeperFault.Damaged) × (snapshot_in rows.now ≡ None)) }
 {
     match rows {
-        [row] => numbers_of(row),
+        [row] => snapshot_shown(alloc, row),
         _ => Err(KeeperFault::Damaged),
+    }
+}
+
+// Returns up to which slot the snapshot gives the log.
+fn floor_in(snapshot: &Option<Snapshot>) -> Floor
+    ensures { result ≡ floor_in snapshot.now }
+{
+    match snapshot {
+        Some(snapshot) => Floor::at(snapshot.floor()),
+        None => Floor::none(),
     }
 }
 
@@ -172,15 +302,19 @@ fn slot_in(row: &Row, at: usize) -> Option<Slot>
 fn put_row<B: Drop, C: Coder<B>>(
     alloc: Global,
     promised: &Option<Ballot>,
+    floor: Floor,
     votes: &mut Votes<B>,
     row: &Row,
 ) -> Result<(), KeeperFault>
-    ensures put { OnOk result (option_and_then (with_row promised.now votes.old) (vote_of C.reading row.now) ≡ Some votes.new) }
+    ensures put { OnOk result (option_and_then (with_row promised.now floor votes.old) (vote_of C.reading row.now) ≡ Some votes.new) }
     ensures fault { IfErr result (λ fault. fault ≢ KeeperFault.Memory
-        → (fault ≡ KeeperFault.Damaged) × (option_and_then (with_row promised.now votes.old) (vote_of C.reading row.now) ≡ None)) }
+        → (fault ≡ KeeperFault.Damaged) × (option_and_then (with_row promised.now floor votes.old) (vote_of C.reading row.now) ≡ None)) }
 {
     let vote = vote_of::<B, C>(alloc, row)?;
-    if votes.find(vote.slot).is_some() || !is_promised(promised, &vote.ballot) {
+    if votes.find(vote.slot).is_some()
+        || !is_promised(promised, &vote.ballot)
+        || vote.slot.get() <= floor.get()
+    {
         return Err(KeeperFault::Damaged);
     }
     if votes.put(vote).is_err() {
@@ -193,41 +327,85 @@ fn put_row<B: Drop, C: Coder<B>>(
 fn votes_in<B: Drop, C: Coder<B>>(
     alloc: Global,
     promised: &Option<Ballot>,
+    floor: Floor,
     rows: Vec<Row>,
 ) -> Result<Votes<B>, KeeperFault>
-    ensures votes { IfOk result (λ votes. votes_after C.reading promised.now [] rows.items ≡ Some votes) }
+    ensures votes { IfOk result (λ votes. votes_after C.reading promised.now floor [] rows.items ≡ Some votes) }
     ensures fault { IfErr result (λ fault. fault ≢ KeeperFault.Memory
-        → (fault ≡ KeeperFault.Damaged) × (votes_after C.reading promised.now [] rows.items ≡ None)) }
+        → (fault ≡ KeeperFault.Damaged) × (votes_after C.reading promised.now floor [] rows.items ≡ None)) }
 {
     let mut votes = Votes::new(alloc);
     for row in rows {
-        put_row::<B, C>(alloc, promised, &mut votes, &row)?;
+        put_row::<B, C>(alloc, promised, floor, &mut votes, &row)?;
     }
     Ok(votes)
 }
 
-/// Reads the rows of an acceptor from those of the two tables: of `meta` k, version, boot, round and node, of `vote` slot, round, node and
-/// entry, in any order. Each row of `vote` is dropped as it is read.
+// Returns the rows with these votes.
+fn rows_with<B>(numbers: &Numbers, snapshot: Option<Snapshot>, votes: Votes<B>) -> Rows<B>
+    ensures { result ≡ rows_with numbers.now snapshot votes }
+{
+    Rows {
+        boot: numbers.boot,
+        promised: numbers.promised,
+        snapshot,
+        votes,
+    }
+}
+
+// Reads the numbers and the votes beside the snapshot.
+fn read_beside<B: Drop, C: Coder<B>>(
+    alloc: Global,
+    metas: &[Row],
+    votes: Vec<Row>,
+    snapshot: Option<Snapshot>,
+) -> Result<Rows<B>, KeeperFault>
+    ensures rows { IfOk result (λ rows. option_and_then (votes_with C.reading votes.items snapshot) (numbers_in 2 (floor_in snapshot) metas.now) ≡ Some rows) }
+    ensures fault { IfErr result (λ fault. fault ≢ KeeperFault.Memory
+        → (fault ≡ KeeperFault.Damaged) × (option_and_then (votes_with C.reading votes.items snapshot) (numbers_in 2 (floor_in snapshot) metas.now) ≡ None)) }
+    ensures numbers { IfOk result (λ rows. are_numbers (numbers_in_rows rows) ≡ true) }
+{
+    let Some(numbers) = numbers_in(2, floor_in(&snapshot), metas) else {
+        drop(snapshot);
+        return Err(KeeperFault::Damaged);
+    };
+    match votes_in::<B, C>(alloc, &numbers.promised, numbers.floor, votes) {
+        Ok(votes) => Ok(rows_with(&numbers, snapshot, votes)),
+        Err(fault) => {
+            drop(snapshot);
+            Err(fault)
+        }
+    }
+}
+
+/// Reads the rows of an acceptor from those of the three tables: of `meta` k, version, boot, round and node, of `vote` slot, round, node and
+/// entry, of `snapshot` k, floor and octets, in any order. Each row of `vote` is dropped as it is read; the snapshot's octets are copied once.
 ///
-/// `Version` if `meta` has one row, of k 1 and of another version than 1; otherwise `Damaged` if `meta` does not have just one row, of k 1,
-/// a number is out of range, an entry cannot be read, two votes have one slot, or a vote is above the promise; `Memory` if memory runs out.
+/// `Version` if `meta` has one row, of k 1 and of a version other than 1 and 2; otherwise `Damaged` if `meta` does not have just one row, of
+/// k 1 and version 2, or `snapshot` just one, of k 1, a number is out of range, the snapshot's octets do not begin with its floor (with floor
+/// 0, if there are any), an entry cannot be read, two votes have one slot, or a vote is above the promise, or not above the floor; `Memory`
+/// if memory runs out.
 pub fn read_rows<B: Drop, C: Coder<B>>(
     alloc: Global,
     metas: &[Row],
     votes: Vec<Row>,
+    snapshots: &[Row],
 ) -> Result<Rows<B>, KeeperFault>
-    ensures rows { IfOk result (λ rows. rows_of C.reading (record { metas = metas.now; votes = votes.items }) ≡ Ok rows) }
+    ensures rows { IfOk result (λ rows. rows_of C.reading (record { metas = metas.now; votes = votes.items; snapshots = snapshots.now }) ≡ Ok rows) }
     ensures fault { IfErr result (λ fault. fault ≢ KeeperFault.Memory
-        → rows_of C.reading (record { metas = metas.now; votes = votes.items }) ≡ Err fault) }
+        → rows_of C.reading (record { metas = metas.now; votes = votes.items; snapshots = snapshots.now }) ≡ Err fault) }
     ensures below { IfErr result LiesBelow }
     ensures numbers { IfOk result (λ rows. are_numbers (numbers_in_rows rows) ≡ true) }
 {
-    let numbers = numbers_in(metas)?;
-    let votes = votes_in::<B, C>(alloc, &numbers.promised, votes)?;
-    Ok(Rows {
-        boot: numbers.boot,
-        promised: numbers.promised,
-        snapshot: None,
-        votes,
-    })
+    if is_other_version(metas) {
+        drop(votes);
+        return Err(KeeperFault::Version);
+    }
+    match snapshot_in(alloc, snapshots) {
+        Ok(snapshot) => read_beside::<B, C>(alloc, metas, votes, snapshot),
+        Err(fault) => {
+            drop(votes);
+            Err(fault)
+        }
+    }
 }

@@ -8,7 +8,7 @@ use Rattle.acceptor_store.proofs.Refusing.{held_told}
 use Rattle.acceptor_store.proofs.calls.numbers.Goals as goal
 
 pub returns-clause-told : goal.returns-clause-told
-returns-clause-told g c = c.in_ok-rows.ensures.told ∙ ap Some (sym c.numbers_in.ensures)
+returns-clause-told g c = c.in_ok-rows.ensures.told ∙ ap Some (sym c.of.ensures)
 
 pub returns-in_err-rows-clause-refused : goal.returns-in_err-rows-clause-refused
 returns-in_err-rows-clause-refused g c clean rows holds is_open =

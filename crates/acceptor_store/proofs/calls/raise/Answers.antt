@@ -12,10 +12,10 @@ returns-clause-held g c clean =
     let new = c.put_numbers.new.conn in
     let rows = c.in_ok-rows.rows in
     let up : c.raise_boot.new.rows ≡ raised rows = c.in_ok-raise_boot.ensures.raised in
-    let k = raises rows c.numbers_in-numbers.result (c.numbers_in-numbers.ensures ∙ ap numbers_in_rows up) in
+    let k = raises rows c.of-numbers.result (c.of-numbers.ensures ∙ ap numbers_in_rows up) in
     let left = (c.in_ok-rows.ensures.held (earlier g.S.Store mid new c.put_numbers.ensures.clean clean)).0 in
     let made = c.in_ok-put_numbers.ensures.ok clean rows left k.0 in
-    (subst (Leaves g.C.Coder.reading (state g.S.Store new)) (k.1 ∙ sym up) made, c.numbers_in-numbers.ensures)
+    (subst (Leaves g.C.Coder.reading (state g.S.Store new)) (k.1 ∙ sym up) made, c.of-numbers.ensures)
 
 pub returns-clause-right : goal.returns-clause-right
 returns-clause-right g c clean others holds =
@@ -25,14 +25,14 @@ returns-clause-right g c clean others holds =
 pub put_numbers-requires-clause-numbers : goal.put_numbers-requires-clause-numbers
 put_numbers-requires-clause-numbers g c =
     let known = in_range c.in_ok-rows.ensures.told c.read.new.session.in_range in
-    subst (λ n. are_numbers n ≡ true) (sym c.numbers_in-numbers.ensures) (c.in_ok-raise_boot.ensures.numbers known)
+    subst (λ n. are_numbers n ≡ true) (sym c.of-numbers.ensures) (c.in_ok-raise_boot.ensures.numbers known)
 
 pub returns-clause-crash : goal.returns-clause-crash
 returns-clause-crash g c others holds =
     let mid = c.read.new.session.conn in
     let new = c.put_numbers.new.conn in
     let rows = c.in_ok-rows.rows in
-    let k = raises rows c.numbers_in-numbers.result (c.numbers_in-numbers.ensures ∙ ap numbers_in_rows c.in_ok-raise_boot.ensures.raised) in
+    let k = raises rows c.of-numbers.result (c.of-numbers.ensures ∙ ap numbers_in_rows c.in_ok-raise_boot.ensures.raised) in
     leaves_then g.S.Store g.C.Coder.reading c.args.session.now.conn mid new (raised others) c.read.ensures.survives c.put_numbers.ensures.clean (λ clean trees may.
     let early = earlier g.S.Store mid new c.put_numbers.ensures.clean clean in
     subst (λ next. (state g.S.Store mid).may_leave trees ⊎ Stores g.C.Coder.reading trees next) (k.1 ∙ ap raised (c.in_ok-rows.ensures.right early others holds))
@@ -43,7 +43,7 @@ returns-in_err-put_numbers-clause-crash g c others holds =
     let mid = c.read.new.session.conn in
     let new = c.put_numbers.new.conn in
     let rows = c.in_ok-rows.rows in
-    let k = raises rows c.numbers_in-numbers.result (c.numbers_in-numbers.ensures ∙ ap numbers_in_rows c.in_ok-raise_boot.ensures.raised) in
+    let k = raises rows c.of-numbers.result (c.of-numbers.ensures ∙ ap numbers_in_rows c.in_ok-raise_boot.ensures.raised) in
     leaves_then g.S.Store g.C.Coder.reading c.args.session.now.conn mid new (raised others) c.read.ensures.survives c.put_numbers.ensures.clean (λ clean trees may.
     let early = earlier g.S.Store mid new c.put_numbers.ensures.clean clean in
     subst (λ next. (state g.S.Store mid).may_leave trees ⊎ Stores g.C.Coder.reading trees next) (k.1 ∙ ap raised (c.in_ok-rows.ensures.right early others holds))

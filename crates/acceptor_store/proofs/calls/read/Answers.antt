@@ -1,7 +1,7 @@
-use Rattle.std.proofs.Common.{◌≡◌, ◌∙◌, ap, sym, subst, true, Some, rules}
+use Rattle.std.proofs.Common.{◌≡◌, ◌∙◌, ap, sym, subst, Some, rules}
 use Rattle.std.specs.Prelude.{Err}
 use Rattle.sqlite.specs.Held.{state}
-use Rattle.store_rows.specs.Numbers.{numbers_in_rows, are_numbers}
+use Rattle.store_rows.specs.Numbers.{numbers_in_rows}
 use Rattle.acceptor_store.specs.Answers.{IsUnfit}
 use Rattle.acceptor_store.proofs.Keeping.{leaves_on, left_reads}
 use Rattle.acceptor_store.proofs.Calling.{earlier, held_on}
@@ -16,7 +16,7 @@ pub returns-clause-kept : goal.returns-clause-kept
 returns-clause-kept g c rows holds clean =
     let left = (holds (earlier g.S.Store c.args.session.now.conn c.read_store.new.conn c.read_store.ensures.survives.clean clean)).0 in (
       leaves_on g.C.Coder.reading (state g.S.Store c.args.session.now.conn) (state g.S.Store c.read_store.new.conn) rows c.read_store.ensures.survives clean left,
-      c.numbers_in.ensures ∙ ap numbers_in_rows (c.in_ok-rows.ensures.right clean rows left),
+      c.of.ensures ∙ ap numbers_in_rows (c.in_ok-rows.ensures.right clean rows left),
     )
 
 pub returns-in_err-rows-clause-kept : goal.returns-in_err-rows-clause-kept
@@ -24,7 +24,7 @@ returns-in_err-rows-clause-kept g c rows holds =
     held_on g.S.Store g.C.Coder.reading c.args.session.now.conn c.read_store.new.conn c.args.session.now.known rows c.read_store.ensures.survives holds
 
 pub returns-clause-told : goal.returns-clause-told
-returns-clause-told g c = ap Some c.numbers_in.ensures
+returns-clause-told g c = ap Some c.of.ensures
 
 pub returns-in_err-rows-clause-sound : goal.returns-in_err-rows-clause-sound
 returns-in_err-rows-clause-sound g c clean rows holds unfit =

@@ -8,8 +8,8 @@ use Rattle.paxos_acceptor.specs.Acceptor.{adopted}
 use Rattle.acceptor_store.specs.Store.{Stores, Leaves, Agrees, written}
 use Rattle.store_rows.specs.Numbers.{numbers_in_rows}
 use Rattle.store_rows.specs.Changes.{is_placed}
-use Rattle.acceptor_store.proofs.Changing.{places}
-use Rattle.acceptor_store.proofs.Calling.{earlier, in_range, adopts, not_lower, leaves_none, leaves_then}
+use Rattle.acceptor_store.proofs.Changing.{places, written_numbers}
+use Rattle.acceptor_store.proofs.Calling.{earlier, in_range, adopts, follows, leaves_none, leaves_then}
 use Rattle.store_keeper.specs.declared.fault.KeeperFault.TheVariants.{Damaged}
 use Rattle.acceptor_store.specs.Answers.{Refuses, are_spelled, has_place}
 use Rattle.acceptor_store.proofs.Refusing.{placed, unplaced, unspelled, refuses_for, same_fault}
@@ -24,10 +24,13 @@ returns-clause-ok g c rows holds clean =
     let held = c.numbers.ensures.kept rows holds (earlier g.S.Store mid c.commit_over.new.conn c.commit_over.ensures.clean clean) in
     let same : before ≡ numbers_in_rows rows = subst (λ k. Agrees k rows) c.in_ok-before.ensures.told held.1 in
     let p = places before change next (sym c.in-Some.ensures) in
-    let placed = subst (AllByRecursion (λ v. is_placed next.promised v ≡ true)) (sym c.as_slice.ensures.votes) p.placed in
-    let adopt = ap (λ (vs : List (Vote g.row.B.Denot)). written next vs rows) c.as_slice.ensures.votes ∙ adopts before next change rows p same in
-    let left = c.in_ok-commit_over.ensures.ok clean rows held.0 same (not_lower before next change rows p same) placed in
-    (subst (Leaves g.C.Coder.reading (state g.S.Store c.commit_over.new.conn)) adopt left, ap numbers_in_rows adopt)
+    let placed = subst (AllByRecursion (λ v. is_placed next.promised next.floor v ≡ true)) (sym c.as_slice.ensures.votes) p.placed in
+    let adopt = ap (λ (vs : List (Vote g.row.B.Denot)). written next change.snapshot vs rows) c.as_slice.ensures.votes ∙ adopts before next change rows p same in
+    let f = follows before next change rows p same in
+    let left = c.in_ok-commit_over.ensures.ok clean rows held.0 same f placed in (
+      subst (Leaves g.C.Coder.reading (state g.S.Store c.commit_over.new.conn)) adopt left,
+      written_numbers rows next change.snapshot c.as_slice.result.now f.floor ∙ ap numbers_in_rows adopt,
+    )
 
 pub commit_over-requires-clause-numbers : goal.commit_over-requires-clause-numbers
 commit_over-requires-clause-numbers g c =
@@ -93,10 +96,10 @@ returns-clause-crash g c rows holds =
     let held = c.numbers.ensures.kept rows holds (earlier g.S.Store mid new c.commit_over.ensures.clean clean) in
     let same : before ≡ numbers_in_rows rows = subst (λ k. Agrees k rows) c.in_ok-before.ensures.told held.1 in
     let p = places before change next (sym c.in-Some.ensures) in
-    let placed = subst (AllByRecursion (λ v. is_placed next.promised v ≡ true)) (sym c.as_slice.ensures.votes) p.placed in
-    let adopt = ap (λ (vs : List (Vote g.row.B.Denot)). written next vs rows) c.as_slice.ensures.votes ∙ adopts before next change rows p same in
+    let placed = subst (AllByRecursion (λ v. is_placed next.promised next.floor v ≡ true)) (sym c.as_slice.ensures.votes) p.placed in
+    let adopt = ap (λ (vs : List (Vote g.row.B.Denot)). written next change.snapshot vs rows) c.as_slice.ensures.votes ∙ adopts before next change rows p same in
     subst (λ made. (state g.S.Store mid).may_leave trees ⊎ Stores g.C.Coder.reading trees made) adopt
-    (c.commit_over.ensures.found clean rows held.0 same (not_lower before next change rows p same) placed trees may))
+    (c.commit_over.ensures.found clean rows held.0 same (follows before next change rows p same) placed trees may))
 
 pub returns-in_err-commit_over-clause-crash : goal.returns-in_err-commit_over-clause-crash
 returns-in_err-commit_over-clause-crash g c rows holds =
@@ -109,10 +112,10 @@ returns-in_err-commit_over-clause-crash g c rows holds =
     let held = c.numbers.ensures.kept rows holds (earlier g.S.Store mid new c.commit_over.ensures.clean clean) in
     let same : before ≡ numbers_in_rows rows = subst (λ k. Agrees k rows) c.in_ok-before.ensures.told held.1 in
     let p = places before change next (sym c.in-Some.ensures) in
-    let placed = subst (AllByRecursion (λ v. is_placed next.promised v ≡ true)) (sym c.as_slice.ensures.votes) p.placed in
-    let adopt = ap (λ (vs : List (Vote g.row.B.Denot)). written next vs rows) c.as_slice.ensures.votes ∙ adopts before next change rows p same in
+    let placed = subst (AllByRecursion (λ v. is_placed next.promised next.floor v ≡ true)) (sym c.as_slice.ensures.votes) p.placed in
+    let adopt = ap (λ (vs : List (Vote g.row.B.Denot)). written next change.snapshot vs rows) c.as_slice.ensures.votes ∙ adopts before next change rows p same in
     subst (λ made. (state g.S.Store mid).may_leave trees ⊎ Stores g.C.Coder.reading trees made) adopt
-    (c.commit_over.ensures.found clean rows held.0 same (not_lower before next change rows p same) placed trees may))
+    (c.commit_over.ensures.found clean rows held.0 same (follows before next change rows p same) placed trees may))
 
 pub returns-in_err-before-clause-crash : goal.returns-in_err-before-clause-crash
 returns-in_err-before-clause-crash g c rows holds =

@@ -11,7 +11,7 @@ use Rattle.acceptor_store.proofs.Refusing.{below_conn}
 use Rattle.acceptor_store.proofs.statements.put_vote.Goals as goal
 
 pub returns-in-Ok-clause-put : goal.returns-in-Ok-clause-put
-returns-in-Ok-clause-put g c clean inside has promised votes v are is under =
+returns-in-Ok-clause-put g c clean inside has promised floor votes v are is under above =
     let old = state g.S.Store c.args.tx.now.conn.now in
     let new = state g.S.Store c.execute_put_vote.new.tx.conn.now in
     let round = c.args.ballot.now.round in
@@ -23,8 +23,8 @@ returns-in-Ok-clause-put g c clean inside has promised votes v are is under =
     rw (c.signed.ensures, c.signed-round.ensures, c.signed-node.ensures, c.node_in.ensures.value, to_z_pos w64 c.args.slot c.requires.slot, to_z_pos w64 round c.requires.round, to_z_pos w64 node small) at ran in
     let put = puts_vote old new c.args.slot round node entry (Ok c.in-Ok.field-0) has known in (
       put.edits,
-      subst (λ tree. AreVotes g.C.Coder.reading promised tree (put_vote v votes)) (sym put.rows)
-          (votes_put g.C.Coder.reading promised (old.now.trees 1) votes are (vote_row c.args.slot round node entry) v is under vote_table put.found put.conflict put.free),
+      subst (λ tree. AreVotes g.C.Coder.reading promised floor tree (put_vote v votes)) (sym put.rows)
+          (votes_put g.C.Coder.reading promised floor (old.now.trees 1) votes are (vote_row c.args.slot round node entry) v is under above vote_table put.found put.conflict put.free),
     )
 
 pub returns-in-Err-clause-below : goal.returns-in-Err-clause-below

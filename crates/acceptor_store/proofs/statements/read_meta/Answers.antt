@@ -1,17 +1,15 @@
-use Rattle.std.proofs.Common.{[], sym, subst}
-use Rattle.sqlite_schema.specs.declared.schema.Schema.{Schema}
+use Rattle.std.proofs.Common.{[], ⊎_elim}
 use Rattle.sqlite.specs.Held.{state}
-use Rattle.sqlite.specs.Listing.{understood}
-use Rattle.sqlite.proofs.Callers.{IsPlain}
 use Rattle.acceptor_store.specs.Tables.{read_meta_text}
-use Rattle.acceptor_store.proofs.Reading.{shows_meta, read_meta_plain, shown_unchanged}
+use Rattle.acceptor_store.proofs.Reading.{shows_meta, shows_old_meta, meta_plain, shown_unchanged}
 use Rattle.acceptor_store.proofs.statements.read_meta.Goals as goal
 
 pub returns-in-Ok-clause-shown : goal.returns-in-Ok-clause-shown
 returns-in-Ok-clause-shown g c clean has =
-    shows_meta (state g.S.Store c.args.conn.now) (state g.S.Store c.query_meta.new.conn) c.in-Ok.rows.items has (c.in-Ok.ensures.shown clean)
+    ⊎_elim (λ this. shows_meta (state g.S.Store c.args.conn.now) (state g.S.Store c.query_meta.new.conn) c.in-Ok.rows.items this (c.in-Ok.ensures.shown clean))
+    (λ old. shows_old_meta (state g.S.Store c.args.conn.now) (state g.S.Store c.query_meta.new.conn) c.in-Ok.rows.items old (c.in-Ok.ensures.shown clean)) has
 
 pub returns-in-Ok-clause-same : goal.returns-in-Ok-clause-same
 returns-in-Ok-clause-same g c clean has =
     shown_unchanged read_meta_text [] (state g.S.Store c.args.conn.now) (state g.S.Store c.query_meta.new.conn) c.in-Ok.rows.items
-    (subst (λ (s : Schema). IsPlain (understood s read_meta_text)) (sym has) read_meta_plain) (c.in-Ok.ensures.shown clean)
+    (meta_plain _ has) (c.in-Ok.ensures.shown clean)

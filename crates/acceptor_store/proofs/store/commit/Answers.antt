@@ -27,7 +27,7 @@ returns-clause-ok g c clean =
     let last = c.write.new.tx.conn.now in
     let end = c.end.new.tx.0 in
     let begun = c.transaction-tx.ensures.begun in
-    let W = Wrote g.C.Coder.reading c.args.puts c.args.numbers.now c.args.votes.now (state g.S.Store old).now in
+    let W = Wrote g.C.Coder.reading c.args.puts c.args.numbers.now c.args.snapshot.now c.args.votes.now (state g.S.Store old).now in
     let same : end ≡ c.conn-2-1.given.0 = search rules in
     let late : HasCleanDisk (state g.S.Store end) = search rules in
     let early : HasCleanDisk (state g.S.Store last) = omega (arith, c.end.ensures.survives.clean) in
@@ -44,7 +44,7 @@ returns-clause-crash g c =
     let old = c.args.conn.now in
     let last = c.write.new.tx.conn.now in
     let begun = c.transaction-tx.ensures.begun in
-    let W = Wrote g.C.Coder.reading c.args.puts c.args.numbers.now c.args.votes.now (state g.S.Store old).now in
+    let W = Wrote g.C.Coder.reading c.args.puts c.args.numbers.now c.args.snapshot.now c.args.votes.now (state g.S.Store old).now in
     let P = λ (trees : Trees). IsTrue (state g.S.Store old).is_open × ((db : Database) × W db × (trees ≡ db.trees)) in
     let was_open = λ (early : HasCleanDisk (state g.S.Store last)). let it : IsTrue (state g.S.Store old).is_open = rw begun at ((c.in_ok-write.ensures.goes early (rw begun)).1 tt) in it in
     let wrote = λ (early : HasCleanDisk (state g.S.Store last)). let it : W (state g.S.Store last).now = rw begun at (c.in_ok-write.ensures.put early (rw begun)) in it in
@@ -68,7 +68,7 @@ returns-clause-spelled g c = where_ok c.end.result c.in_ok-write.ensures.spelled
 
 pub returns-in_err-write-clause-crash : goal.returns-in_err-write-clause-crash
 returns-in_err-write-clause-crash g c =
-    let W = Wrote g.C.Coder.reading c.args.puts c.args.numbers.now c.args.votes.now (state g.S.Store c.args.conn.now).now in
+    let W = Wrote g.C.Coder.reading c.args.puts c.args.numbers.now c.args.snapshot.now c.args.votes.now (state g.S.Store c.args.conn.now).now in
     abandoned g.S.Store c.args.conn.now c.transaction-tx.result.conn.now c.write.new.tx.conn.now c.drop-tx.new.self.0 c.conn-1.given.0
     (λ (trees : Trees). IsTrue (state g.S.Store c.args.conn.now).is_open × ((db : Database) × W db × (trees ≡ db.trees)))
     c.transaction-tx.ensures.begun c.write.ensures.survives c.drop-tx.ensures.survives (search rules)

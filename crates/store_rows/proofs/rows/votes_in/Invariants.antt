@@ -5,5 +5,5 @@ use Rattle.store_rows.proofs.rows.votes_in.Given as goal
 
 abbrev pub invariant-loop-row : goal.invariant-loop-row
 invariant-loop-row g l =
-    votes_after g.C.Coder.reading l.promised l.votes (into_iter_items l.row-iterator)
-    ≡ votes_after g.C.Coder.reading l.promised [] l.fn.rows.items
+    votes_after g.C.Coder.reading l.promised l.floor l.votes (into_iter_items l.row-iterator)
+    ≡ votes_after g.C.Coder.reading l.promised l.floor [] l.fn.rows.items
