@@ -30,3 +30,5 @@ mod serve;
 mod sql;
 #[cfg(test)]
 mod store_acts;
+#[cfg(test)]
+mod store_versions;

@@ -25,20 +25,22 @@ pub enum Call {
     Commit,
 }
 
-/// What is asked of a store: a commit has its round, its bodies and its slots, and `Cut` commits a snapshot with this floor. `Whole` is a
-/// call that commits, or whose rows are compared with: the promise (1, 1), if the first is true, and the vote in slot 1 and that ballot for
-/// Boot (1, 1), if the second is.
+/// What is asked of a store: a commit has its round, its bodies and its slots, and `Cut` commits a snapshot with this floor. `Floor` loads.
+/// `Whole` is a call that commits, or whose rows are compared with: the promise (1, 1), if the first is true, and the vote in slot 1 and
+/// that ballot for Boot (1, 1), if the second is.
 pub enum Ask<'a> {
     Load,
     Boot,
     Commit(u64, u32, &'a [u64]),
     Cut(u8),
+    Floor,
     Whole(Call, bool, bool),
     Failures,
 }
 
-/// A call, and what it returns; a commit returns its fault alone, and failures are in the place of the boot number. `Whole` has in the place
-/// of the round whether promise and votes are just those: 1 or 0.
+/// A call, and what it returns; a commit returns its fault alone, and failures are in the place of the boot number. `Floor` has the
+/// snapshot's floor there, and in the place of the round how many octets it has: both 0 if there is none. `Whole` has in the place of the
+/// round whether promise and votes are just those: 1 or 0.
 pub type Row<'a> = (Ask<'a>, Answer);
 
 fn round_in(votes: &Votes<Number>, slot: u64) -> u64 {
@@ -160,6 +162,25 @@ fn committed<S: Alter>(
     done
 }
 
+// The floor of the snapshot, and how many octets it has.
+fn floor_of(rows: &Rows<Number>) -> (u64, u64) {
+    match &rows.snapshot {
+        Some(snapshot) => (snapshot.floor().get(), snapshot.octets().len() as u64),
+        None => (0, 0),
+    }
+}
+
+fn floor<S: Alter>(keeper: &mut Sql<S>) -> Answer {
+    match keeper.load() {
+        Ok(rows) => {
+            let (floor, octets) = floor_of(&rows);
+            drop(rows);
+            (0, floor, octets, [0, 0, 0])
+        }
+        Err(fault) => (fault.number(), 0, 0, [0, 0, 0]),
+    }
+}
+
 // Commits a snapshot with this floor.
 fn cut<S: Alter>(rt: &impl Abort, alloc: Global, keeper: &mut Sql<S>, floor: u8) -> Answer {
     let octets = [0, 0, 0, 0, 0, 0, 0, floor];
@@ -245,6 +266,7 @@ fn asked<S: Alter>(rt: &impl Abort, alloc: Global, keeper: &mut Sql<S>, ask: &As
         Ask::Boot => boot(keeper),
         Ask::Commit(round, body, slots) => committed(rt, alloc, keeper, *round, *body, slots),
         Ask::Cut(floor) => cut(rt, alloc, keeper, *floor),
+        Ask::Floor => floor(keeper),
         Ask::Whole(call, promises, votes) => asked_whole(
             rt, alloc, keeper, *call, *promises, *votes,
         ),
@@ -342,17 +364,46 @@ fn changes_without_a_place(rt: HostRuntime) {
     two_in_memory(&rt, rt.alloc(), WITHOUT_A_PLACE, WITHOUT_A_PLACE_AGAIN);
 }
 
-const WITH_A_SNAPSHOT: &[Row<'static>] = &[
-    (Ask::Commit(3, 8, &[3]), (0, 0, 0, [0, 0, 0])),
+// A cut forgets the votes up to its floor, and a boot keeps the snapshot. The floor is not repeated.
+const CUTS: &[Row<'static>] = &[
+    (Ask::Commit(3, 8, &[1, 2, 3]), (0, 0, 0, [0, 0, 0])),
+    (Ask::Cut(2), (0, 0, 0, [0, 0, 0])),
+    (Ask::Load, (0, 0, 3, [0, 0, 3])),
+    (Ask::Floor, (0, 2, 8, [0, 0, 0])),
+    (Ask::Boot, (0, 1, 3, [0, 0, 3])),
+    (Ask::Floor, (0, 2, 8, [0, 0, 0])),
     (Ask::Cut(2), (62, 0, 0, [0, 0, 0])),
-    (Ask::Load, (65, 0, 0, [0, 0, 0])),
+    (Ask::Floor, (65, 0, 0, [0, 0, 0])),
 ];
 
-const WITH_A_SNAPSHOT_AGAIN: &[Row<'static>] = &[(Ask::Load, (0, 0, 3, [0, 0, 3]))];
+// It is found again, and no vote is taken at it.
+const CUTS_AGAIN: &[Row<'static>] = &[
+    (Ask::Floor, (0, 2, 8, [0, 0, 0])),
+    (Ask::Load, (0, 1, 3, [0, 0, 3])),
+    (Ask::Commit(3, 9, &[3]), (0, 0, 0, [0, 0, 0])),
+    (Ask::Commit(3, 9, &[2, 3]), (62, 0, 0, [0, 0, 0])),
+];
+
+// One cut after the other, of all votes and of none; and a lower floor.
+const HIGHER: &[Row<'static>] = &[
+    (Ask::Cut(1), (0, 0, 0, [0, 0, 0])),
+    (Ask::Commit(1, 7, &[2, 3]), (0, 0, 0, [0, 0, 0])),
+    (Ask::Cut(3), (0, 0, 0, [0, 0, 0])),
+    (Ask::Cut(4), (0, 0, 0, [0, 0, 0])),
+    (Ask::Load, (0, 0, 1, [0, 0, 0])),
+    (Ask::Cut(3), (62, 0, 0, [0, 0, 0])),
+];
+
+const HIGHER_AGAIN: &[Row<'static>] = &[
+    (Ask::Floor, (0, 4, 8, [0, 0, 0])),
+    (Ask::Cut(5), (0, 0, 0, [0, 0, 0])),
+    (Ask::Floor, (0, 5, 8, [0, 0, 0])),
+];
 
 #[test]
-fn a_change_with_a_snapshot_has_no_place(rt: HostRuntime) {
-    two_in_memory(&rt, rt.alloc(), WITH_A_SNAPSHOT, WITH_A_SNAPSHOT_AGAIN);
+fn snapshots(rt: HostRuntime) {
+    two_in_memory(&rt, rt.alloc(), CUTS, CUTS_AGAIN);
+    two_in_memory(&rt, rt.alloc(), HIGHER, HIGHER_AGAIN);
 }
 
 /// Runs the text in a store, and returns it opened again.
@@ -406,15 +457,19 @@ fn life_on_disks<D: Crash + Drop>(
 const BEFORE_A_CRASH: &[Row<'static>] = &[
     (Ask::Boot, (0, 1, 0, [0, 0, 0])),
     (Ask::Commit(1, 7, &[]), (0, 0, 0, [0, 0, 0])),
-    (Ask::Commit(1, 7, &[1]), (0, 0, 0, [0, 0, 0])),
+    (Ask::Commit(1, 7, &[1, 2]), (0, 0, 0, [0, 0, 0])),
 ];
 
 const BEHIND_A_CRASH: &[Row<'static>] = &[
-    (Ask::Load, (0, 1, 1, [1, 0, 0])),
-    (Ask::Boot, (0, 2, 1, [1, 0, 0])),
+    (Ask::Load, (0, 1, 1, [1, 1, 0])),
+    (Ask::Boot, (0, 2, 1, [1, 1, 0])),
+    (Ask::Cut(1), (0, 0, 0, [0, 0, 0])),
 ];
 
-const BEHIND_ANOTHER: &[Row<'static>] = &[(Ask::Load, (0, 2, 1, [1, 0, 0]))];
+const BEHIND_ANOTHER: &[Row<'static>] = &[
+    (Ask::Load, (0, 2, 1, [0, 1, 0])),
+    (Ask::Floor, (0, 1, 8, [0, 0, 0])),
+];
 
 fn lives_on_disks<D: Crash + Drop>(rt: &impl Abort, alloc: Global, files: Files<D>) {
     let files = life_on_disks(rt, alloc, files, BEFORE_A_CRASH);

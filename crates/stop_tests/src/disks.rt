@@ -49,13 +49,20 @@ impl Plan {
     }
 }
 
-// A disk with these octets, which are synced, and which does not fail.
-fn disk_of(rt: &impl Abort, alloc: Global, octets: &[u8]) -> Fused {
+/// What the files of a database have.
+#[derive(Drop)]
+pub struct Octets {
+    log: Vec<u8>,
+    database: Vec<u8>,
+}
+
+// A disk with these octets, which are synced, and which fails after so many calls.
+fn disk_of(rt: &impl Abort, alloc: Global, octets: &[u8], calls: u64) -> Fused {
     let mut disk = Memory::new(alloc);
     if disk.write_at(0, octets).is_err() || disk.sync().is_err() {
         panic!(rt; "no room for a disk");
     }
-    Fuse::new(disk, u64::MAX)
+    Fuse::new(disk, calls)
 }
 
 // The disk after a crash.
@@ -66,12 +73,66 @@ fn crashed(rt: &impl Abort, alloc: Global, disk: Fused, leaves: Leaves) -> Fused
             disk.crash();
             disk
         }
-        Leaves::All => disk_of(rt, alloc, disk.inner().bytes()),
+        Leaves::All => disk_of(rt, alloc, disk.inner().bytes(), u64::MAX),
+    }
+}
+
+/// The files after a crash.
+pub fn crashed_files(
+    rt: &impl Abort,
+    alloc: Global,
+    files: Files<Fused>,
+    plan: Plan,
+) -> Files<Fused> {
+    let Files { log, db } = files;
+    Files {
+        log: crashed(rt, alloc, log, plan.log),
+        db: crashed(rt, alloc, db, plan.database),
+    }
+}
+
+/// What the files have.
+pub fn octets_of(rt: &impl Abort, alloc: Global, files: Files<Fused>) -> Octets {
+    let Files { log, db } = files;
+    Octets {
+        log: Vec::from_slice(alloc, log.inner().bytes()).expect(rt, "room for a log"),
+        database: Vec::from_slice(alloc, db.inner().bytes()).expect(rt, "room for a file"),
+    }
+}
+
+// After how many calls the log and the database file fail, if this one does after so many.
+fn calls_of(which: Which, calls: u64) -> (u64, u64) {
+    match which {
+        Which::Log => (calls, u64::MAX),
+        Which::Database => (u64::MAX, calls),
+    }
+}
+
+/// Files with these octets, of which one fails after so many calls.
+pub fn files_with(
+    rt: &impl Abort,
+    alloc: Global,
+    octets: &Octets,
+    which: Which,
+    calls: u64,
+) -> Files<Fused> {
+    let (log, db) = calls_of(which, calls);
+    Files {
+        log: disk_of(rt, alloc, octets.log.as_slice(), log),
+        db: disk_of(rt, alloc, octets.database.as_slice(), db),
     }
 }
 
 fn fused(alloc: Global, calls: u64) -> Fused {
     Fuse::new(Memory::new(alloc), calls)
+}
+
+/// Files that have nothing, and do not fail.
+pub fn new_files(alloc: Global) -> Files<Fused> {
+    Files {
+        log: fused(alloc, u64::MAX),
+        db: fused(alloc, u64::MAX),
+    }
 }
 
 fn options(frames: usize) -> Options {
@@ -82,7 +143,8 @@ fn options(frames: usize) -> Options {
 
 // A store over any storage or any files: one call each, without contracts.
 
-fn opened<S: Alter + Drop>(
+/// The store over a connection, or its storage, if that stopped.
+pub fn opened<S: Alter + Drop>(
     alloc: Global,
     conn: Connection<S>,
 ) -> Result<SqlKeeper<Number, Octet, S>, S> {
@@ -92,15 +154,18 @@ fn opened<S: Alter + Drop>(
     }
 }
 
-fn closed<S: Alter + Drop>(keeper: SqlKeeper<Number, Octet, S>) -> S {
+/// The storage of a store.
+pub fn closed<S: Alter + Drop>(keeper: SqlKeeper<Number, Octet, S>) -> S {
     keeper.close().into_store()
 }
 
-fn files_of<D: Disk>(store: FileStore<D>) -> Files<D> {
+/// The files of a storage.
+pub fn files_of<D: Disk>(store: FileStore<D>) -> Files<D> {
     store.close()
 }
 
-fn connected<D: Disk + Drop>(
+/// The connection over these files, or the files, if one of them stopped.
+pub fn connected<D: Disk + Drop>(
     alloc: Global,
     files: Files<D>,
     frames: usize,
@@ -114,8 +179,8 @@ fn connected<D: Disk + Drop>(
     }
 }
 
-// The store over these files, or the files, if one of them stopped.
-fn store_over<D: Disk + Drop>(
+/// The store over these files, or the files, if one of them stopped.
+pub fn store_over<D: Disk + Drop>(
     alloc: Global,
     files: Files<D>,
     frames: usize,
@@ -140,11 +205,7 @@ struct Crashing<'a, R> {
 impl<R: Abort> Crashing<'_, R> {
     // The store over what the crash left of these files.
     fn store_after(&self, files: Files<Fused>) -> Stored {
-        let Files { log, db } = files;
-        let left = Files {
-            log: crashed(self.rt, self.alloc, log, self.plan.log),
-            db: crashed(self.rt, self.alloc, db, self.plan.database),
-        };
+        let left = crashed_files(self.rt, self.alloc, files, self.plan);
         match store_over(self.alloc, left, self.plan.frames) {
             Ok(keeper) => keeper,
             Err(_) => panic!(self.rt; "no store after a crash"),
@@ -169,11 +230,7 @@ fn live_over<S: Alter + Drop, C: Crashes<SqlKeeper<Number, Octet, S>>>(
 
 /// A new store, whose disks do not fail.
 pub fn new_store(rt: &impl Abort, alloc: Global) -> Stored {
-    let files = Files {
-        log: fused(alloc, u64::MAX),
-        db: fused(alloc, u64::MAX),
-    };
-    match store_over(alloc, files, 1_000) {
+    match store_over(alloc, new_files(alloc), 1_000) {
         Ok(keeper) => keeper,
         Err(_) => panic!(rt; "no store"),
     }
@@ -183,10 +240,7 @@ pub fn new_store(rt: &impl Abort, alloc: Global) -> Stored {
 /// what the crash left then, and does not stop any more.
 pub fn live_on_disks(rt: &impl Abort, alloc: Global, plan: Plan, calls: u64) -> (Life, bool) {
     let crashing = Crashing { rt, alloc, plan };
-    let (log, db) = match plan.which {
-        Which::Log => (calls, u64::MAX),
-        Which::Database => (u64::MAX, calls),
-    };
+    let (log, db) = calls_of(plan.which, calls);
     let files = Files {
         log: fused(alloc, log),
         db: fused(alloc, db),

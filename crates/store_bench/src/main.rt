@@ -1,4 +1,4 @@
-//! Measures of the acceptor's store: `store_bench memory N` and `store_bench file PATH N`.
+//! Measures of the acceptor's store: `store_bench memory N`, `store_bench file PATH N`, and either with `cut FLOOR OCTETS` for N.
 #![tactic(auto)]
 
 mod body;
@@ -6,6 +6,7 @@ mod fault;
 mod run;
 
 use crate::fault::BenchFault;
+use crate::run::Measure;
 use std::env;
 use std::io::Error;
 use std::process::ExitCode;
@@ -14,7 +15,10 @@ const USAGE: &str = "\
 usage: store_bench memory N
        store_bench file PATH N
   commits N votes of 200 octets, each alone, then N promises with a vote each, after what the store has; the counts are
-  printed, and on standard error the nanoseconds that opening, loading and a commit took";
+  printed, and on standard error the nanoseconds that opening, loading and a commit took
+       store_bench memory cut FLOOR OCTETS
+       store_bench file PATH cut FLOOR OCTETS
+  fills an empty store with FLOOR + 64 votes of 200 octets, and commits a snapshot of OCTETS octets at FLOOR";
 
 // Returns the words of the command line, without the program's own name.
 fn words_of(rt: &HostRuntime) -> Result<Vec<String>, Error> {
@@ -42,19 +46,31 @@ fn ended(rt: &HostRuntime, done: Result<(), BenchFault>) -> ExitCode {
     }
 }
 
+// Returns what the words of a measure ask for.
+fn measure_of(words: &[String]) -> Option<Measure> {
+    match words {
+        [times] => Some(Measure::Commits(times.parse().ok()?)),
+        [cut, floor, octets] if cut.as_str() == "cut" => Some(Measure::Cut(
+            floor.parse().ok()?,
+            octets.parse().ok()?,
+        )),
+        _ => None,
+    }
+}
+
 // Measures a store in memory.
-fn memory(rt: &HostRuntime, times: &str) -> ExitCode {
-    match times.parse::<u64>() {
-        Ok(times) => ended(rt, run::in_memory(rt, times)),
-        Err(_) => misuse(rt),
+fn memory(rt: &HostRuntime, words: &[String]) -> ExitCode {
+    match measure_of(words) {
+        Some(measure) => ended(rt, run::in_memory(rt, measure)),
+        None => misuse(rt),
     }
 }
 
 // Measures a store on a file.
-fn file(rt: &HostRuntime, path: &str, times: &str) -> ExitCode {
-    match times.parse::<u64>() {
-        Ok(times) => ended(rt, run::on_file(rt, path, times)),
-        Err(_) => misuse(rt),
+fn file(rt: &HostRuntime, path: &str, words: &[String]) -> ExitCode {
+    match measure_of(words) {
+        Some(measure) => ended(rt, run::on_file(rt, path, measure)),
+        None => misuse(rt),
     }
 }
 
@@ -63,8 +79,8 @@ fn main(rt: HostRuntime) -> ExitCode {
         return misuse(&rt);
     };
     match words.as_slice() {
-        [kind, times] if kind.as_str() == "memory" => memory(&rt, times.as_str()),
-        [kind, path, times] if kind.as_str() == "file" => file(&rt, path.as_str(), times.as_str()),
+        [kind, rest @ ..] if kind.as_str() == "memory" => memory(&rt, rest),
+        [kind, path, rest @ ..] if kind.as_str() == "file" => file(&rt, path.as_str(), rest),
         _ => misuse(&rt),
     }
 }

@@ -2,7 +2,7 @@
 use crate::body::{LENGTH, Octets, Plain};
 use crate::fault::BenchFault;
 use acceptor_store::SqlKeeper;
-use paxos_packets::{Ballot, Change, Entry, Rows, Slot, Vote, Votes};
+use paxos_packets::{Ballot, Change, Entry, Rows, Slot, Snapshot, Vote, Votes};
 use sqlite::{Alter, Connection, File, FileStore};
 use std::alloc::Global;
 use std::time::{Duration, Instant};
@@ -207,26 +207,38 @@ fn run_over<S: Alter>(
     Ok(())
 }
 
+/// What a run measures.
+#[derive(Clone, Copy, Debug)]
+pub enum Measure {
+    /// So many commits of a vote, then as many of a promise and a vote.
+    Commits(u64),
+    /// One commit of a snapshot at this floor, of this many octets.
+    Cut(u64, usize),
+}
+
 // The whole run over a connection, which is given back.
 fn run<S: Alter>(
     rt: &HostRuntime,
     conn: Connection<S>,
-    times: u64,
+    measure: Measure,
 ) -> (Connection<S>, Result<(), BenchFault>) {
     match open(rt.alloc(), conn) {
         Ok(store) => {
             let mut store = store;
-            let done = run_over(rt, &mut store, times);
+            let done = match measure {
+                Measure::Commits(times) => run_over(rt, &mut store, times),
+                Measure::Cut(floor, length) => cut_over(rt, &mut store, floor, length),
+            };
             (store.close(), done)
         }
         Err((fault, conn)) => (conn, Err(fault)),
     }
 }
 
-/// Commits to a store in memory.
-pub fn in_memory(rt: &HostRuntime, times: u64) -> Result<(), BenchFault> {
+/// Measures a store in memory.
+pub fn in_memory(rt: &HostRuntime, measure: Measure) -> Result<(), BenchFault> {
     let conn = Connection::open_in_memory(rt.alloc())?;
-    let (conn, done) = run(rt, conn, times);
+    let (conn, done) = run(rt, conn, measure);
     drop(conn);
     done
 }
@@ -236,10 +248,10 @@ fn run_on(
     rt: &HostRuntime,
     conn: Connection<FileStore<File>>,
     start: Instant,
-    times: u64,
+    measure: Measure,
 ) -> Result<(), BenchFault> {
     let (conn, done) = match tell_since(rt, "opening", start, 1) {
-        Ok(()) => run(rt, conn, times),
+        Ok(()) => run(rt, conn, measure),
         Err(fault) => (conn, Err(fault)),
     };
     let closed = conn.close();
@@ -248,9 +260,91 @@ fn run_on(
     Ok(())
 }
 
-/// Commits to a store on the file at this path, after what it has.
-pub fn on_file(rt: &HostRuntime, path: &str, times: u64) -> Result<(), BenchFault> {
+/// Measures a store on the file at this path; commits go on after what it has, and a cut wants an empty one.
+pub fn on_file(rt: &HostRuntime, path: &str, measure: Measure) -> Result<(), BenchFault> {
     let start = Instant::now(rt)?;
     let conn = Connection::open(rt, path)?;
-    run_on(rt, conn, start, times)
+    run_on(rt, conn, start, measure)
+}
+
+// How many votes a cut leaves.
+const LEFT: u64 = 64;
+
+// How many votes a commit has while a store is filled.
+const BATCH: u64 = 1024;
+
+// Votes of round 1 in the slots from `first` to `last`, with the promise of that round.
+fn votes_of(alloc: Global, first: u64, last: u64) -> Result<Change<Octets>, BenchFault> {
+    let mut votes = Votes::new(alloc);
+    for slot in first..=last {
+        if votes.put(vote(alloc, slot, 1)?).is_err() {
+            return Err(BenchFault::Memory);
+        }
+    }
+    Ok(Change {
+        promised: Some(Ballot { round: 1, node: 1 }),
+        snapshot: None,
+        votes,
+    })
+}
+
+// Fills an empty store with votes in the slots up to `last`.
+fn fill<S: Alter>(alloc: Global, store: &mut Store<S>, last: u64) -> Result<(), BenchFault> {
+    let mut first = 1u64;
+    for _ in 0..=last / BATCH {
+        let end = first.saturating_add(BATCH - 1).min(last);
+        let change = votes_of(alloc, first, end)?;
+        commit(store, &change)?;
+        first = end.saturating_add(1);
+    }
+    Ok(())
+}
+
+// A snapshot of this many octets at this floor.
+fn snapshot(alloc: Global, floor: u64, length: usize) -> Result<Snapshot, BenchFault> {
+    let mut octets = Vec::from_slice(alloc, floor.to_be_bytes().as_slice())?;
+    let rest = vec![in alloc; b'x'; length.saturating_sub(octets.len())]?;
+    octets.extend_from_slice(rest.as_slice())?;
+    match Snapshot::of(octets) {
+        Ok(Some(snapshot)) => Ok(snapshot),
+        Ok(None) => Err(BenchFault::Slots),
+        Err(_) => Err(BenchFault::Memory),
+    }
+}
+
+// Commits a snapshot of this many octets at this floor.
+fn cut<S: Alter>(
+    alloc: Global,
+    store: &mut Store<S>,
+    floor: u64,
+    length: usize,
+) -> Result<(), BenchFault> {
+    let change = Change {
+        promised: None,
+        snapshot: Some(snapshot(alloc, floor, length)?),
+        votes: Votes::new(alloc),
+    };
+    commit(store, &change)
+}
+
+// Fills the store with votes, commits a snapshot that forgets all but the last ones, and prints what is held then.
+fn cut_over<S: Alter>(
+    rt: &HostRuntime,
+    store: &mut Store<S>,
+    floor: u64,
+    length: usize,
+) -> Result<(), BenchFault> {
+    boot(store)?;
+    let start = Instant::now(rt)?;
+    fill(rt.alloc(), store, floor.saturating_add(LEFT))?;
+    tell_since(rt, "filling the store", start, 1)?;
+    let start = Instant::now(rt)?;
+    cut(rt.alloc(), store, floor, length)?;
+    tell_since(rt, "a commit of a snapshot", start, 1)?;
+    let held = load(store)?;
+    println!(rt;
+        "{floor} votes are forgotten with a snapshot of {length} octets; {} votes are held",
+        held.votes
+    )?;
+    Ok(())
 }
