@@ -310,50 +310,56 @@ fn held_stops(rt: &impl Abort, alloc: Global, which: Which, frames: usize) -> [S
     found
 }
 
+// If the log is lost, what is found is what was there before. If it is kept, it is new after one stop: at the sync of the commit.
+
 #[test]
 fn the_log_stops_as_a_store_of_version_one_is_opened(rt: HostRuntime) {
     let found = old_stops(&rt, rt.alloc(), Which::Log, LONG);
-    check_eq!(&rt; found, [(0, 0, 0); 4]);
+    let (lost, kept) = ((63, 0, 0), (63, 0, 1));
+    check_eq!(&rt; found, [lost, kept, lost, kept]);
 }
 
 #[test]
 fn the_database_file_stops_as_a_store_of_version_one_is_opened(rt: HostRuntime) {
     let found = old_stops(&rt, rt.alloc(), Which::Database, LONG);
-    check_eq!(&rt; found, [(0, 0, 0); 4]);
+    check_eq!(&rt; found, [(8, 0, 0); 4]);
 }
 
 #[test]
 fn a_short_log_stops_as_a_store_of_version_one_is_opened(rt: HostRuntime) {
     let found = old_stops(&rt, rt.alloc(), Which::Log, SHORT);
-    check_eq!(&rt; found, [(0, 0, 0); 4]);
+    let (lost, kept) = ((72, 0, 0), (72, 0, 1));
+    check_eq!(&rt; found, [lost, kept, lost, kept]);
 }
 
 #[test]
 fn the_database_file_of_a_short_log_stops_as_a_store_of_version_one_is_opened(rt: HostRuntime) {
     let found = old_stops(&rt, rt.alloc(), Which::Database, SHORT);
-    check_eq!(&rt; found, [(0, 0, 0); 4]);
+    check_eq!(&rt; found, [(13, 0, 0); 4]);
 }
 
 #[test]
 fn the_log_stops_in_a_cut(rt: HostRuntime) {
     let found = held_stops(&rt, rt.alloc(), Which::Log, LONG);
-    check_eq!(&rt; found, [(0, 0, 0); 4]);
+    let (lost, kept) = ((81, 6, 0), (81, 6, 1));
+    check_eq!(&rt; found, [lost, kept, lost, kept]);
 }
 
 #[test]
 fn the_database_file_stops_in_a_cut(rt: HostRuntime) {
     let found = held_stops(&rt, rt.alloc(), Which::Database, LONG);
-    check_eq!(&rt; found, [(0, 0, 0); 4]);
+    check_eq!(&rt; found, [(8, 0, 0); 4]);
 }
 
 #[test]
 fn a_short_log_stops_in_a_cut(rt: HostRuntime) {
     let found = held_stops(&rt, rt.alloc(), Which::Log, SHORT);
-    check_eq!(&rt; found, [(0, 0, 0); 4]);
+    let (lost, kept) = ((81, 18, 0), (81, 18, 1));
+    check_eq!(&rt; found, [lost, kept, lost, kept]);
 }
 
 #[test]
 fn the_database_file_of_a_short_log_stops_in_a_cut(rt: HostRuntime) {
     let found = held_stops(&rt, rt.alloc(), Which::Database, SHORT);
-    check_eq!(&rt; found, [(0, 0, 0); 4]);
+    check_eq!(&rt; found, [(8, 8, 0); 4]);
 }

@@ -72,12 +72,12 @@ fn the_database_file_stops(rt: HostRuntime) {
 #[test]
 fn a_short_log_stops(rt: HostRuntime) {
     let found = sweep(&rt, rt.alloc(), Which::Log, SHORT);
-    let (lost, kept) = ((23, 15, 34, 0), (23, 15, 34, 6));
+    let (lost, kept) = ((23, 16, 34, 0), (23, 16, 34, 6));
     check_eq!(&rt; found, [lost, kept, lost, kept]);
 }
 
 #[test]
 fn the_database_file_of_a_short_log_stops(rt: HostRuntime) {
     let found = sweep(&rt, rt.alloc(), Which::Database, SHORT);
-    check_eq!(&rt; found, [(14, 5, 4, 0); 4]);
+    check_eq!(&rt; found, [(14, 6, 4, 0); 4]);
 }
