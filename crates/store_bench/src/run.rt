@@ -173,7 +173,7 @@ fn begin<S: Alter>(rt: &HostRuntime, store: &mut Store<S>) -> Result<Found, Benc
 }
 
 // Commits `times` votes, then `times` promises with a vote, and prints what a commit took.
-fn measure<S: Alter>(
+fn time_commits<S: Alter>(
     rt: &HostRuntime,
     store: &mut Store<S>,
     from: Found,
@@ -198,7 +198,7 @@ fn run_over<S: Alter>(
     times: u64,
 ) -> Result<(), BenchFault> {
     let from = begin(rt, store)?;
-    measure(rt, store, from, times)?;
+    time_commits(rt, store, from, times)?;
     let held = load(store)?;
     println!(rt;
         "boot {}: {times} commits of a vote, {times} of a promise and a vote; {} votes are held, and round {} is promised",
