@@ -1,5 +1,5 @@
 -- What is made of a planned outcome, step after step.
-use Rattle.std.proofs.Common.{◌≡◌, inl, inr, ℕ, ◌<◌, Bool, not, true, false, cond, Option, Some, None, Result, Ok, Err, List, [], ◌++◌, sym, ap, subst, ◌∙◌, refl}
+use Rattle.std.proofs.Common.{◌≡◌, ℕ, Bool, not, true, false, cond, Option, Some, None, Result, Ok, Err, List, [], ◌++◌, sym, ap, subst, ◌∙◌, refl}
 use Rattle.std.specs.Prelude.{OnErr}
 use Rattle.std.proofs.lemmas.Bool.{false≢true}
 use Rattle.std.proofs.lemmas.List.{append-nil}
@@ -9,22 +9,20 @@ use Rattle.paxos_packets.specs.declared.entry.Entry.{Entry}
 use Rattle.paxos_packets.specs.declared.rows.Rows.{Rows}
 use Rattle.paxos_packets.specs.Members.{IsMember}
 use Rattle.paxos_acceptor.specs.Acceptor as accepting
-use Rattle.store_keeper.specs.declared.fault.KeeperFault.{KeeperFault}
 use Rattle.replica_machine.specs.Log.{LogState}
 use Rattle.replica_machine.specs.Replay.{Steps}
-use Rattle.actor_outboxes.specs.Outboxes.{Waiting, WaitBehind}
+use Rattle.actor_outboxes.specs.Outboxes.{WaitBehind}
 use Rattle.paxos_node.specs.declared.outcome.Outcome.{Outcome}
 use Rattle.paxos_planning.specs.Node.{NodeState}
-use Rattle.paxos_node.specs.Adopting.{adopted, rested, stays_up}
+use Rattle.paxos_node.specs.Adopting.{adopted, goes_on, stays_up}
 use Rattle.paxos_node.specs.Applying.{down}
 use Rattle.actor_parts.specs.declared.fault.ActorFault.{ActorFault}
 use Rattle.actor_parts.specs.declared.fault.ActorFault.TheVariants.{Failed, Rounds, Full, Keeper, Disagree, LostHere, Worn, Memory}
-use Rattle.actor_parts.specs.Parts.{Parted, IsPrefixOf, IsPlan, IsServing, IsSound}
-use Rattle.actor_parts.specs.Handing.{handed_out}
-use Rattle.actor_parts.specs.Steps.{Falls, IsAtEnd, Applied, OnlyNode, OnlyKeeper, OnlyLog, OnlyWaiting, next_node, Adopts, StaysWho, AnswersUp, Takes, TakesNot, TakesIn}
+use Rattle.actor_parts.specs.Parts.{Parted, IsPrefixOf, IsPlan, IsSound}
+use Rattle.actor_parts.specs.Steps.{IsAtEnd, Applied, OnlyNode, OnlyKeeper, OnlyLog, OnlyWaiting, next_node, Adopts, StaysWho, AnswersUp, Takes, TakesNot, TakesIn}
 
--- a node that adopts an outcome has the rows with its change, is up unless the outcome says otherwise, and has applied its entries, if it commits
--- no snapshot
+-- a node that adopts an outcome has the rows with its change, is up unless the outcome says otherwise, and has applied its entries after what it
+-- has, or after none if it rests on a snapshot
 
 pub next_rows : {B : Type 0} (me members : ℕ) (o : Outcome B) (x : NodeState B) → (adopted me members o x).rows ≡ accepting.adopted x.rows o.change
 next_rows {B} me members o x = by_down o.is_down
@@ -52,9 +50,9 @@ is_down me members o x up h = by_down o.is_down refl
     by_down true e = refl
     by_down false e = absurd (false≢true (sym h ∙ up_is me members o x up false e))
 
-pub next_applied : {B : Type 0} (me members : ℕ) (o : Outcome B) (x : NodeState B) → o.change.snapshot ≡ None → o.is_down ≡ false
-    → (adopted me members o x).applied ≡ x.applied ++ o.applied
-next_applied me members o x plain e = rw e (λ i. (rested o.moves.over (plain i) x).applied ++ o.applied)
+pub next_applied : {B : Type 0} (me members : ℕ) (o : Outcome B) (x : NodeState B) → o.is_down ≡ false
+    → (adopted me members o x).applied ≡ (goes_on o x).applied ++ o.applied
+next_applied me members o x e = rw e refl
 
 -- beginnings of a log
 
@@ -94,12 +92,12 @@ module _ {B M K : Type 0} where
       → IsPlan same a.node.me a.node.members a.node.state o
   none_failed same a none o some = absurd (let off : ◌≡◌ {A = Option (Outcome B)} None (Some o) = sym none ∙ some in cc)
 
-  -- the actor is ready to adopt an outcome: there is room for it, and it is committed
-  pub record Ready (holds : K → Rows B → Type 0) (is_failed : K → Bool) (o : Outcome B) (old new : Parted B M K) : Type 0 where
+  -- the actor is ready to adopt an outcome: there is room for it, it is committed, and the machine is to go on from this log
+  pub record Ready (holds : K → Rows B → Type 0) (is_failed : K → Bool) (base : LogState B M) (o : Outcome B) (old new : Parted B M K) : Type 0 where
     pub state : new.node.state ≡ old.node.state
     pub who : StaysWho old new
     pub waiting : new.waiting ≡ old.waiting
-    pub log : new.log ≡ old.log
+    pub log : new.log ≡ base
     pub failed : new.failed ≡ old.failed
     pub spoiled : new.spoiled ≡ old.spoiled
     pub held : holds new.keeper (accepting.adopted old.node.state.rows o.change)
@@ -133,7 +131,7 @@ module _ {B M K : Type 0} where
       → holds old.keeper old.node.state.rows → is_failed old.keeper ≡ false
       → (holds mid.keeper mid.node.state.rows → holds new.keeper (accepting.adopted mid.node.state.rows o.change))
       → (is_failed mid.keeper ≡ false → is_failed new.keeper ≡ false)
-      → Ready holds is_failed o old new
+      → Ready holds is_failed old.log o old new
   ready holds is_failed o old mid new r k held whole ok stays =
       record {
         state = ap (λ n. n.state) k.node ∙ r.state;
@@ -146,6 +144,26 @@ module _ {B M K : Type 0} where
             (subst (λ s. holds s mid.node.state.rows) (sym r.rest.keeper)
             (subst (λ (x : NodeState B). holds old.keeper x.rows) (sym r.state) held)));
         whole = stays (ap is_failed r.rest.keeper ∙ whole);
+      }
+
+  -- once the machine has another log
+  pub based : (holds : K → Rows B → Type 0) (is_failed : K → Bool) (base : LogState B M) (o : Outcome B) (old mid new : Parted B M K)
+      → Ready holds is_failed old.log o old mid → OnlyLog mid new → new.log ≡ base → Ready holds is_failed base o old new
+  based holds is_failed base o old mid new r l is =
+      record {
+        state = ap (λ n. n.state) l.node ∙ r.state;
+        who = record {
+          me = ap (λ n. n.me) l.node ∙ r.who.me;
+          members = ap (λ n. n.members) l.node ∙ r.who.members;
+          waits_me = ap (λ w. w.me) l.waiting ∙ r.who.waits_me;
+          waits_members = ap (λ w. w.members) l.waiting ∙ r.who.waits_members;
+        };
+        waiting = l.waiting ∙ r.waiting;
+        log = is;
+        failed = l.failed ∙ r.failed;
+        spoiled = l.spoiled ∙ r.spoiled;
+        held = subst (λ k. holds k (accepting.adopted old.node.state.rows o.change)) (sym l.keeper) r.held;
+        whole = ap is_failed l.keeper ∙ r.whole;
       }
 
 module _ {B S Y M K : Type 0} (steps : Steps B S Y) (content : M → S) where
@@ -294,7 +312,7 @@ module _ {B M K : Type 0} where
         serves = λ e. let s = sound.serves e in record {
           up = s.up;
           held = s.held;
-          plain = s.plain;
+          floor = s.floor;
           whole = s.whole;
           followed = s.followed;
           alive = s.alive;

@@ -1,2 +1,4 @@
 pub mod Sayings
 pub mod Carrying
+pub mod Basing
+pub mod Planning

@@ -1,4 +1,5 @@
 pub mod Parts
 pub mod Handing
 pub mod Fault
+pub mod Snapshots
 pub mod Steps

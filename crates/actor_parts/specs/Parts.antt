@@ -2,7 +2,8 @@
 use Rattle.std.specs.Prelude.{◌≡◌, ℕ, ◌-◌, Bool, true, false, Option, Some, None, List, [], ◌++◌, length, slice_get}
 use Rattle.paxos_packets.specs.Members.{IsMember}
 use Rattle.paxos_packets.specs.declared.rows.Rows.{Rows}
-use Rattle.replica_machine.specs.Log.{LogState, first_log}
+use Rattle.paxos_packets.specs.Snapshot.{floor_in}
+use Rattle.replica_machine.specs.Log.{LogState}
 use Rattle.paxos_node.specs.declared.event.Event.{Event}
 use Rattle.paxos_node.specs.declared.outcome.Outcome.{Outcome}
 use Rattle.paxos_packets.specs.declared.vote.Vote.{Vote}
@@ -23,14 +24,14 @@ pub record Parted (B M K : Type 0) : Type 0 where
   -- whether a fault has ended it
   pub spoiled : Bool
 
--- the parts of an actor that has just begun
-abbrev pub first_parts : {B M K : Type 0} → Held B → K → Waiting B → M → Parted B M K
-first_parts h keeper w machine =
+-- the parts of an actor that has just begun, with this log
+abbrev pub first_parts : {B M K : Type 0} → Held B → K → Waiting B → LogState B M → Parted B M K
+first_parts h keeper w log =
     record {
       node = h;
       keeper = keeper;
       waiting = w;
-      log = first_log machine;
+      log = log;
       failed = None;
       spoiled = false;
     }
@@ -58,11 +59,11 @@ pub record IsPlan {B : Type 0} (same : B → B → Bool) (me members : ℕ) (x :
   pub planned : Planned same members event x o
 
 module _ {B M K : Type 0} where
-  -- what holds of an actor that goes on: its keeper holds its rows, which have no snapshot, and its machine has followed its log
+  -- what holds of an actor that goes on: its keeper holds its rows, and its machine has followed its log from the floor on
   pub record IsServing (holds : K → Rows B → Type 0) (is_failed : K → Bool) (a : Parted B M K) : Type 0 where
     pub up : a.node.state.up ≡ true
     pub held : holds a.keeper a.node.state.rows
-    pub plain : a.node.state.rows.snapshot ≡ None
+    pub floor : a.log.floor ≡ floor_in a.node.state.rows.snapshot
     pub whole : is_failed a.keeper ≡ false
     pub followed : a.log.applied ≡ a.node.state.applied
     pub alive : a.log.failed ≡ false

@@ -35,6 +35,7 @@ module _ {B S Y M : Type 0} (steps : Steps B S Y) (content : M → S) where
   -- the entries are applied at the end of the log, and these are the sayings at them to the transports of a node in a boot
   pub record Applied (node boot : ℕ) (entries : List (Entry B)) (old new : LogState B M) (said : List Y) : Type 0 where
     pub applied : new.applied ≡ old.applied ++ entries
+    pub floor : new.floor ≡ old.floor
     pub alive : new.failed ≡ false
     pub says : (first : S) (under : List (Entry B)) → IsLogOf steps content first under old
         → said ≡ handed_out (machine_from steps first) node boot (under ++ old.applied) entries

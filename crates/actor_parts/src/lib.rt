@@ -4,14 +4,16 @@
 
 mod fault;
 mod following;
+mod loading;
 mod parts;
 mod storing;
 mod taking;
 
 pub use actor_outboxes::Outboxes;
 pub use fault::ActorFault;
+pub use loading::load_log;
 pub use parts::Parts;
 pub use paxos_node::{Event, Node, NodeFault, Outcome};
-pub use paxos_packets::{Ballot, Entry, Members, Packet, Rows};
-pub use replica_machine::{AppliedLog, Machine};
+pub use paxos_packets::{Ballot, Entry, Members, Packet, Rows, Snapshot};
+pub use replica_machine::{AppliedLog, LoadFault, Machine, SaveFault};
 pub use store_keeper::{Keeper, KeeperFault};

@@ -1,6 +1,6 @@
 //! The parts of an actor, and what is done to each.
 ghost use Rattle.std.specs.Prelude.{◌≡◌, ◌<◌, ◌++◌, [], length, nat_lt, true, false, Some, Ok, Err, OnOk, OnErr, IfOk, IfErr, IfNone, IfSome, is_err};
-ghost use Rattle.std.specs.Prelude.{IsOkUnless, if◌then◌else◌};
+ghost use Rattle.std.specs.Prelude.{◌^◌, List, IsErrOf, is_some, if◌then◌else◌};
 ghost use Rattle.paxos_acceptor.specs.Acceptor as accepting;
 ghost use Rattle.paxos_node.specs.declared.fault.NodeFault.TheVariants as node_fault;
 ghost use Rattle.paxos_node.specs.Adopting.{Planned, Fits};
@@ -9,17 +9,25 @@ ghost use Rattle.paxos_node.specs.Held.{HasRoom};
 ghost use Rattle.paxos_node.specs.Plans.{plans, unchanged, Answers};
 ghost use Rattle.paxos_proposer.specs.Proposer.{is_leading};
 ghost use Rattle.actor_outboxes.specs.Outboxes.{HasLimits, IsPeer, TakenFor, WaitsFirst, most_waiting, waiting};
-ghost use Rattle.replica_machine.specs.Log.{Follows};
 ghost use Rattle.actor_parts.specs.Parts.{Parted, IsPrefixOf, first_parts, open_slots};
 ghost use Rattle.actor_parts.specs.Steps.{IsAtEnd, Applied, Falls, OnlyNode, OnlyKeeper, OnlyLog, OnlyWaiting, Adopts};
-ghost use Rattle.paxos_planning.specs.Node.{told_length};
+ghost use Rattle.actor_parts.specs.Snapshots.{base_log, is_no_log, IsMadeOf};
+ghost use Rattle.paxos_node.specs.Snapshots.{may_cut};
+ghost use Rattle.paxos_node.specs.declared.event.Event.TheVariants.{Cut};
+ghost use Rattle.paxos_packets.specs.Snapshot.{floor_in, snapshot_of};
+ghost use Rattle.paxos_packets.specs.declared.entry.Entry as log_entries;
+ghost use Rattle.paxos_planning.specs.Node.{log_length, told_length};
+ghost use Rattle.replica_machine.specs.Given.{AreGiven};
+ghost use Rattle.replica_machine.specs.Log.{IsLogOf, length_in};
+ghost use Rattle.replica_machine.specs.Snapshot.{kept_octets, kept_of, loaded_log};
 
 use crate::following::apply_all;
+use crate::loading::load_log;
 use crate::storing::commit;
 use actor_outboxes::Outboxes;
 use paxos_node::{Event, Node, NodeFault, Outcome};
-use paxos_packets::{Ballot, Entries, Entry, Members, Packet, Rows};
-use replica_machine::{AppliedLog, Failed, Machine};
+use paxos_packets::{Ballot, Entries, Entry, Members, Memory, Packet, Rows};
+use replica_machine::{AppliedLog, Failed, LoadFault, Machine, SaveFault};
 use std::alloc::Global;
 use std::marker::Model;
 use store_keeper::{Keeper, KeeperFault};
@@ -64,16 +72,15 @@ impl<M: Machine, K> Model for Parts<M, K> {
 }
 
 impl<M: Machine, K: Keeper<M::Body>> Parts<M, K> {
-    /// Creates the parts of an actor that has just begun.
+    /// Creates the parts of an actor that has just begun, with this log.
     pub fn of(
         alloc: Global,
         node: Node<M::Body>,
         outboxes: Outboxes<M::Body>,
         keeper: K,
-        machine: M,
+        log: AppliedLog<M>,
     ) -> Parts<M, K>
-        ensures is { result ≡ first_parts node keeper outboxes machine }
-        ensures follows { Follows M.steps M.content (M.content machine) result.log }
+        ensures { result ≡ first_parts node keeper outboxes log }
     {
         Parts {
             alloc,
@@ -81,7 +88,7 @@ impl<M: Machine, K: Keeper<M::Body>> Parts<M, K> {
             keeper,
             commits: 0,
             outboxes,
-            log: AppliedLog::new(alloc, machine),
+            log,
             failed: None,
             spoiled: false,
         }
@@ -131,6 +138,20 @@ impl<M: Machine, K: Keeper<M::Body>> Parts<M, K> {
         } else {
             0
         }
+    }
+
+    /// Returns the floor, up to which the node's snapshot gives its log.
+    pub fn floor(&self) -> u64
+        ensures { result ≡ floor_in self.now.node.state.rows.snapshot }
+    {
+        self.node.floor().get()
+    }
+
+    /// Returns whether the log has entries above its floor.
+    pub fn has_applied(&self) -> bool
+        ensures { result ≡ nat_lt 0 (length self.now.log.applied) }
+    {
+        !self.log.applied().is_empty()
     }
 
     /// Returns whether entries of its node wait for a slot.
@@ -184,6 +205,13 @@ impl<M: Machine, K: Keeper<M::Body>> Parts<M, K> {
         self.outboxes.limits(); // for the proof
     }
 
+    /// Does nothing. Its contract says that the node's log is shorter than there are slots.
+    pub fn fits_slots(&self)
+        ensures { log_length self.now.node.state < 2 ^ 40 }
+    {
+        let _ = self.node.applied(); // for the proof
+    }
+
     /// Returns no sayings.
     pub fn silence(&self) -> Vec<M::Say>
         ensures { result.items ≡ [] }
@@ -217,6 +245,64 @@ impl<M: Machine, K: Keeper<M::Body>> Parts<M, K> {
             → (outcome_of M.Body.same self.now.node.members event.now self.now.node.state).disagrees ≡ false }
     {
         self.node.plan(event)
+    }
+
+    /// Returns the octets of the log, as `AppliedLog::save` does.
+    pub fn save(&self) -> Result<Vec<u8>, SaveFault>
+        ensures octets { IfOk result (λ octets. octets.items ≡ kept_octets M.saved (kept_of M.content self.now.log)) }
+        ensures back { (first : M.Content) (under : List (log_entries.Entry M.Body))
+            → IsLogOf M.steps M.content first under self.now.log → M.is_sound first
+            → AreGiven (under ++ self.now.log.applied) → length_in self.now.log < 2 ^ 40
+            → IfOk result (λ octets. loaded_log M.loaded octets.items ≡ Some (kept_of M.content self.now.log)) }
+        ensures only { (first : M.Content) (under : List (log_entries.Entry M.Body))
+            → IsLogOf M.steps M.content first under self.now.log → AreGiven (under ++ self.now.log.applied)
+            → length_in self.now.log < 2 ^ 40
+            → IfOk result (λ octets. IfSome (loaded_log M.loaded octets.items) (λ kept. kept ≡ kept_of M.content self.now.log)) }
+    {
+        self.log.save()
+    }
+
+    /// Plans that the node, which is up, rests on these octets; `None` if they are no snapshot of its log, or if no entry is applied above
+    /// the floor.
+    pub fn plan_cut(&self, octets: &[u8]) -> Result<Option<Outcome<M::Body>>, Memory>
+        requires up { self.now.node.state.up ≡ true }
+        ensures planned { IfOk result (λ plan. IfSome plan (λ outcome. Planned M.Body.same self.now.node.members
+            (Cut self.now.node.me (snapshot_of octets.now)) self.now.node.state outcome)) }
+        ensures exactly { IfOk result (λ plan. is_some plan ≡ may_cut (snapshot_of octets.now) self.now.node.state) }
+        ensures rests { IfOk result (λ plan. IfSome plan (λ outcome. outcome.change.snapshot ≡ snapshot_of octets.now)) }
+        ensures fits { IfOk result (λ plan. IfSome plan (λ outcome.
+            Fits self.now.node.me self.now.node.members outcome self.now.node.state)) }
+    {
+        let Ok(outcome) = self.node.plan_cut(octets) else {
+            return Err(Memory);
+        };
+        if outcome.change.snapshot.is_none() {
+            return Ok(None);
+        }
+        Ok(Some(outcome))
+    }
+
+    /// Returns the log that is made of the snapshot which the outcome commits, if it commits one.
+    pub fn load(&self, outcome: &Outcome<M::Body>) -> Result<Option<AppliedLog<M>>, LoadFault>
+        ensures made { IfOk result (λ made. IsMadeOf M.content M.loaded outcome.now.change.snapshot made) }
+        ensures damaged { IsErrOf result LoadFault.Damaged → is_no_log M.loaded outcome.now.change.snapshot ≡ true }
+    {
+        load_log(self.alloc, &outcome.change.snapshot)
+    }
+
+    /// Lets the machine go on where the node does that has committed this outcome: from the log that is made of the snapshot which the node
+    /// takes; else from the one that there is, which is cut if the node rests on a snapshot of it.
+    pub fn go_from(&mut self, outcome: &Outcome<M::Body>, made: Option<AppliedLog<M>>)
+        ensures log { self.new.log ≡ base_log made outcome.now.change.snapshot self.old.log }
+        ensures rest { OnlyLog self.old self.new }
+    {
+        if let Some(made) = made {
+            self.log = made;
+            return;
+        }
+        if outcome.change.snapshot.is_some() {
+            self.log.cut();
+        }
     }
 
     /// Allocates all memory that adopting the outcome needs.
@@ -301,7 +387,7 @@ impl<M: Machine, K: Keeper<M::Body>> Parts<M, K> {
         self.outboxes.put_back(packet);
     }
 
-    /// Returns the log; none of it once the node is down.
+    /// Returns the entries of the log above the floor; none once the node is down.
     pub fn log(&self) -> &[Entry<M::Body>]
         ensures { result.now ≡ (if self.now.node.state.up then self.now.log.applied else []) }
     {

@@ -6,15 +6,17 @@ use Rattle.std.proofs.lemmas.List.{append-nil, append_assoc}
 use Rattle.paxos_packets.specs.declared.entry.Entry.{Entry}
 use Rattle.paxos_packets.specs.declared.packet.Packet.{Packet}
 use Rattle.paxos_node.specs.declared.event.Event.{Event}
-use Rattle.paxos_node.specs.declared.event.Event.TheVariants.{Take, Deliver}
+use Rattle.paxos_node.specs.declared.event.Event.TheVariants.{Take, Deliver, Cut}
 use Rattle.paxos_node.specs.Events.{takes, is_round_refused, is_full_refused}
 use Rattle.paxos_node.specs.View.{Viewed}
 use Rattle.paxos_planning.specs.Node.{NodeState}
 use Rattle.replica_machine.specs.Replay.{Machine}
-use Rattle.actor_parts.specs.Handing.{handed_by}
+use Rattle.paxos_node.specs.Snapshots.{may_cut}
+use Rattle.paxos_packets.specs.Snapshot as taken
 use Rattle.node_actor.specs.Calls.{is_own, turn_event, has_no_round, has_no_room}
+use Rattle.node_actor.specs.Snapshots.{Logs, TakesLog, under_after, handed_by, cut_to}
 use Rattle.node_actor.specs.Views.{moved_by, is_for}
-use Rattle.actor_run.specs.Events.{asked_by, asked_in, acts_in, gained_by, behind, gained_in, said_in}
+use Rattle.actor_run.specs.Events.{asked_by, asked_in, acts_in, gained_by, behind, gained_in, said_in, under_in, TakeLogs, is_own_cut}
 
 abbrev pub gained_at : {B : Type 0} → Option (Event B) → NodeState B → List (Entry B)
 gained_at None x = []
@@ -37,16 +39,34 @@ module _ {B : Type 0} (same : B → B → Bool) (members : ℕ) where
       ∙ sym (append_assoc (gained_by x s.node) (gained_in same members xs t) (gained_at e (behind same members xs t).node))
 
   module _ {S Y : Type 0} (m : Machine B S Y) where
-    pub said_more : (under : List (Entry B)) (made : List (Event B)) (e : Option (Event B)) (s : Viewed B)
-        → said_in same members m under (made ++ option_to_list e) s
-        ≡ said_in same members m under made s ++ handed_by same members m under e (behind same members made s).node
-    said_more under [] None s = refl
-    said_more under [] (Some e) s = append-nil (handed_by same members m under (Some e) s.node)
-    said_more under (x ∷ xs) e s =
+    pub said_more : (logs : Logs B) (under : List (Entry B)) (made : List (Event B)) (e : Option (Event B)) (s : Viewed B)
+        → said_in same members m logs under (made ++ option_to_list e) s
+        ≡ said_in same members m logs under made s
+        ++ handed_by same members m logs (under_in same members logs under made s) e (behind same members made s).node
+    said_more logs under [] None s = refl
+    said_more logs under [] (Some e) s = append-nil (handed_by same members m logs under (Some e) s.node)
+    said_more logs under (x ∷ xs) e s =
         let t : Viewed B = moved_by same members (Some x) s in
-        ap (λ g. handed_by same members m under (Some x) s.node ++ g) (said_more under xs e t)
-        ∙ sym (append_assoc (handed_by same members m under (Some x) s.node) (said_in same members m under xs t)
-        (handed_by same members m under e (behind same members xs t).node))
+        let up : List (Entry B) = under_after same members logs under (Some x) s.node in
+        ap (λ g. handed_by same members m logs under (Some x) s.node ++ g) (said_more logs up xs e t)
+        ∙ sym (append_assoc (handed_by same members m logs under (Some x) s.node) (said_in same members m logs up xs t)
+        (handed_by same members m logs (under_in same members logs up xs t) e (behind same members xs t).node))
+
+    pub take_more : (loaded : List ℕ → Option S) (logs : Logs B) (made : List (Event B)) (e : Option (Event B)) (s : Viewed B)
+        → TakeLogs same members loaded m logs (made ++ option_to_list e) s
+        → TakeLogs same members loaded m logs made s × TakesLog same members loaded m logs e (behind same members made s).node
+    take_more loaded logs [] None s h = (tt, tt)
+    take_more loaded logs [] (Some e) s h = (tt, h.0)
+    take_more loaded logs (x ∷ xs) e s h =
+        let r = take_more loaded logs xs e (moved_by same members (Some x) s) h.1 in ((h.0, r.0), r.1)
+
+  pub under_more : (logs : Logs B) (under : List (Entry B)) (made : List (Event B)) (e : Option (Event B)) (s : Viewed B)
+      → under_in same members logs under (made ++ option_to_list e) s
+      ≡ under_after same members logs (under_in same members logs under made s) e (behind same members made s).node
+  under_more logs under [] None s = refl
+  under_more logs under [] (Some e) s = refl
+  under_more logs under (x ∷ xs) e s =
+      under_more logs (under_after same members logs under (Some x) s.node) xs e (moved_by same members (Some x) s)
 
   -- what one event asks and gains
 
@@ -66,6 +86,20 @@ module _ {B : Type 0} (same : B → B → Bool) (members : ℕ) where
       → acts_in (gained_by e x) ≡ asked_by me e
   gains me (Take n t body) x own full = let room : takes x ≡ true = takes_it (takes x) full in rw (own, room) refl
   gains me _ x own full = refl
+
+  -- a cut asks and gains nothing
+
+  pub cut_asks : (me : ℕ) (e : Event B) → is_own_cut me e ≡ true → asked_by me e ≡ []
+  cut_asks me (Take n t body) h = absurd (let off : ◌≡◌ {A = Bool} false true = h in cc)
+  cut_asks me _ h = refl
+
+  cut_by : (b : Bool) (me : ℕ) (snapshot : Option taken.Snapshot) (x : NodeState B)
+      → gained_at {B = B} (if b then Some (Cut me snapshot) else None) x ≡ []
+  cut_by true me snapshot x = refl
+  cut_by false me snapshot x = refl
+
+  pub cut_gains : (me : ℕ) (snapshot : Option taken.Snapshot) (y x : NodeState B) → gained_at (cut_to me snapshot y) x ≡ []
+  cut_gains me snapshot y x = cut_by (may_cut snapshot y) me snapshot x
 
   -- a turn's event gains nothing, and is not refused
 

@@ -1,5 +1,8 @@
 -- A run of an actor: turns for as long as a gate allows, and before each the events that a feed gives (docs/ARCHITECTURE.md, "Threads").
 use Rattle.std.specs.Prelude.{◌≡◌, ◌⊎◌, ℕ, Bool, true, false, Option, Some, None, Result, Ok, Err, List, [], ◌∷◌, ◌++◌}
+use Rattle.std.specs.declared.vec.Vec.{Vec}
+use Rattle.std.specs.declared.alloc.Global.{Global}
+use Rattle.paxos_packets.specs.Snapshot as taken
 use Rattle.paxos_packets.specs.declared.entry.Entry.{Entry}
 use Rattle.paxos_packets.specs.declared.rows.Rows.{Rows}
 use Rattle.paxos_node.specs.declared.event.Event.{Event}
@@ -9,10 +12,17 @@ use Rattle.replica_machine.specs.Log.{IsLogOf, machine_from}
 use Rattle.replica_machine.specs.Replay.{Steps}
 use Rattle.actor_parts.specs.declared.fault.ActorFault.{ActorFault}
 use Rattle.node_actor.specs.Actor.{Acting}
-use Rattle.node_actor.specs.Calls.{Acts}
+use Rattle.node_actor.specs.Calls.{Acts, Cuts}
+use Rattle.node_actor.specs.Snapshots.{Logs}
 use Rattle.node_actor.specs.Views.{View, seen, StandsFor}
 use Rattle.actor_run.specs.Answers.{is_refusal, says_of, IsQuiet}
-use Rattle.actor_run.specs.Events.{asked_by, asked_in, acts_in, behind, gained_in, said_in}
+use Rattle.actor_run.specs.Events.{asked_by, asked_in, acts_in, behind, gained_in, said_in, under_in, TakeLogs}
+
+-- an actor has cut to this snapshot, or had nothing to cut
+abbrev pub IsCut : {B S Y M K : Type 0} → (B → B → Bool) → Steps B S Y → (M → S) → (List ℕ → Option S) → (K → Rows B → Type 0)
+    → (K → Rows B → Type 0) → (K → ℕ) → Option taken.Snapshot → Acting B M K → Acting B M K → View B → Type 0
+IsCut {Y = Y} same steps content loaded holds finds failures snapshot old new view =
+    (says : Vec Y Global) × Cuts same steps content loaded holds finds failures snapshot old new view (Ok says)
 
 -- where a run begins: the actor, a view that it stands for, and what the feed had given and got
 pub record Outset (B Y M K : Type 0) : Type 0 where
@@ -39,19 +49,21 @@ abbrev pub IsHeld : {B : Type 0} → (B → B → Bool) → ℕ → Option (Even
 IsHeld same members None made s = Unit {0}
 IsHeld same members (Some e) made s = HeldBack same members e made s
 
-module _ {B S Y M K : Type 0} (same : B → B → Bool) (steps : Steps B S Y) (content : M → S) where
+module _ {B S Y M K : Type 0} (same : B → B → Bool) (steps : Steps B S Y) (content : M → S) (loaded : List ℕ → Option S) where
   -- the view went on by these events of the core, and its actor with it: the acts that it gained, and after them one that is late, are
-  -- those that the feed asked for, in order; and what was said is what the core hands out
+  -- those that the feed asked for, in order; and what was said is what the core hands out, of whichever logs the snapshots are that it took
   pub record Went (late : List (ℕ × B)) (o : Outset B Y M K) (now : Acting B M K) (view : View B) (made given : List (Event B)) (said : List Y) : Type 0 where
     pub stands : StandsFor now view
     pub me : now.node.me ≡ o.actor.node.me
     pub members : now.node.members ≡ o.actor.node.members
     pub moved : seen view ≡ behind same o.actor.node.members made (seen o.view)
     pub acts : acts_in (gained_in same o.actor.node.members made (seen o.view)) ++ late ≡ asked_in o.actor.node.me given
-    pub says : (first : S) (under : List (Entry B)) → IsLogOf steps content first under o.actor.log
-        → said ≡ said_in same o.actor.node.members (machine_from steps first) under made (seen o.view)
-    pub follows : (first : S) (under : List (Entry B)) → IsLogOf steps content first under o.actor.log
-        → IsLogOf steps content first under now.log
+    pub says : (first : S) (under : List (Entry B)) (logs : Logs B) → IsLogOf steps content first under o.actor.log
+        → TakeLogs same o.actor.node.members loaded (machine_from steps first) logs made (seen o.view)
+        → said ≡ said_in same o.actor.node.members (machine_from steps first) logs under made (seen o.view)
+    pub follows : (first : S) (under : List (Entry B)) (logs : Logs B) → IsLogOf steps content first under o.actor.log
+        → TakeLogs same o.actor.node.members loaded (machine_from steps first) logs made (seen o.view)
+        → IsLogOf steps content first (under_in same o.actor.node.members logs under made (seen o.view)) now.log
 
   module _ {F : Type 0} (saw : F → List (Event B) → List Y → Type 0) where
     -- the same, stated with what the feed gave and got
@@ -88,7 +100,7 @@ module _ {B S Y M K : Type 0} (same : B → B → Bool) (steps : Steps B S Y) (c
         pub said : List Y
         pub went : Went late o before view made given said
         pub why : IsLate late o made last
-        pub ended : Acts same steps content holds finds failures last before now view (Err fault)
+        pub ended : Acts same steps content loaded holds finds failures last before now view (Err fault)
         pub fatal : is_refusal fault ≡ false
         pub quiet : IsQuiet fault answer
         pub told : saw feed (o.gave ++ given) ((o.got ++ said) ++ says_of fault)

@@ -5,6 +5,7 @@ use Rattle.actor_outboxes.specs.Outboxes.{Waiting, waiting}
 use Rattle.actor_parts.specs.Parts.{open_slots}
 use Rattle.node_actor.specs.Actor.{Acting}
 use Rattle.actor_run.specs.declared.feed.Seen.{Seen}
+use Rattle.paxos_packets.specs.Snapshot.{floor_in}
 use Rattle.paxos_planning.specs.Node.{told_length}
 
 -- how many packets wait for a member, as far as 16 bits count them
@@ -21,6 +22,7 @@ pub record Shows {B M K : Type 0} (a : Acting B M K) (s : Seen) : Type 0 where
   pub heard : s.heard ≡ a.last.heard
   pub posted : s.posted ≡ a.last.posted
   pub applied : s.applied ≡ told_length a.node.state
+  pub floor : s.floor ≡ floor_in a.node.state.rows.snapshot
   pub pending : s.pending ≡ nat_lt 0 (length a.node.state.pending)
   pub waits : s.waiting ≡ counts a.waiting
   pub leads : s.leads ≡ is_leading a.node.state.proposer.role

@@ -1,11 +1,13 @@
 // What comes before a turn: makes the events that a feed gives.
-ghost use Rattle.std.specs.Prelude.{◌≡◌, Option, List, [], MatchOption};
+ghost use Rattle.std.specs.Prelude.{◌≡◌, Option, List, [], true, MatchOption, OnOk};
+ghost use Rattle.node_actor.specs.Snapshots.{own_cut};
+ghost use Rattle.node_actor.specs.Views.{View, StandsFor};
 ghost use Rattle.paxos_node.specs.declared.event.Event.{Event};
 ghost use Rattle.mail_table.specs.Seats.{Owns};
 ghost use Rattle.node_actor.specs.Calls.{is_own};
 ghost use Rattle.actor_run.specs.Answers.{says_of, IsQuiet, Gets, Answered};
-ghost use Rattle.actor_run.specs.Events.{asked_by};
-ghost use Rattle.actor_run.specs.Runs.{Outset, Underway, Waits, Makes, Keeps};
+ghost use Rattle.actor_run.specs.Events.{asked_by, is_own_cut};
+ghost use Rattle.actor_run.specs.Runs.{IsCut, Outset, Underway, Waits, Makes, Keeps};
 ghost use Rattle.actor_run.specs.Seen.{count_for, counts, Shows};
 
 use crate::feed::{Feed, Seen};
@@ -45,6 +47,7 @@ fn seen_by<M: Machine, K: Keeper<M::Body>>(actor: &Actor<M, K>) -> Seen
         from: actor.from(),
         heard: actor.heard(),
         applied: actor.applied(),
+        floor: actor.floor(),
         pending: actor.has_pending(),
         posted: actor.posted(),
         waiting: waiting_of(actor),
@@ -75,15 +78,31 @@ fn is_own<B>(node: u8, event: &Event<B>) -> bool
     }
 }
 
+// Returns whether the event is a cut of this node.
+fn is_own_cut<B>(node: u8, event: &Event<B>) -> bool
+    ensures { result ≡ is_own_cut node event.now }
+{
+    match event {
+        Event::Cut { node: of, .. } => *of == node,
+        Event::Take { .. }
+        | Event::Tick { .. }
+        | Event::Start { .. }
+        | Event::Suspect { .. }
+        | Event::Deliver { .. }
+        | Event::Crash { .. }
+        | Event::Restart { .. } => false,
+    }
+}
+
 // Returns the event that was held back, or the next one that the feed gives; none is held back then.
 fn next_event<M: Machine, K: Keeper<M::Body>, F: Feed<M::Body, M::Say>>(
     actor: &Actor<M, K>,
     feed: &mut F,
     held: &mut Option<Event<M::Body>>,
 ) -> Option<Event<M::Body>>
-    ensures next { (o : Outset M.Body M.Say M K) → Waits M.Body.same M.steps M.content F.saw held.old o actor.now feed.old →
-        MatchOption result (Waits M.Body.same M.steps M.content F.saw Option.None o actor.now feed.new)
-        (λ e. Underway M.Body.same M.steps M.content F.saw (asked_by actor.now.node.me e) o actor.now feed.new) }
+    ensures next { (o : Outset M.Body M.Say M K) → Waits M.Body.same M.steps M.content M.loaded F.saw held.old o actor.now feed.old →
+        MatchOption result (Waits M.Body.same M.steps M.content M.loaded F.saw Option.None o actor.now feed.new)
+        (λ e. Underway M.Body.same M.steps M.content M.loaded F.saw (asked_by actor.now.node.me e) o actor.now feed.new) }
     ensures taken { held.new ≡ Option.None }
 {
     if held.is_none() {
@@ -131,7 +150,32 @@ fn refused<B: Drop, Y: Drop, F: Feed<B, Y>>(
     }
 }
 
-// Makes an event that the feed gave. Returns the event if it is held back.
+// Cuts the actor's log, and hands out what it says then. No event is held back.
+fn cut<M: Machine, K: Keeper<M::Body>, F: Feed<M::Body, M::Say>>(
+    mail: &Mail<M::Body>,
+    actor: &mut Actor<M, K>,
+    feed: &mut F,
+) -> Result<Option<Event<M::Body>>, ActorFault<M::Say>>
+    requires owned { Owns mail.now actor.old.seat }
+    ensures still_owned { Owns mail.now actor.new.seat }
+    ensures me { actor.new.node.me ≡ actor.old.node.me }
+    ensures makes { (o : Outset M.Body M.Say M K) →
+        Underway M.Body.same M.steps M.content M.loaded F.saw [] o actor.old feed.old →
+        Makes M.Body.same M.steps M.content M.loaded F.saw K.holds K.finds K.failures o actor.new feed.new result }
+    ensures cuts { (view : View M.Body) → StandsFor actor.old view → OnOk result
+        (IsCut M.Body.same M.steps M.content M.loaded K.holds K.finds K.failures (own_cut M.saved M.content actor.old.log)
+        actor.old actor.new view) }
+{
+    match actor.cut(mail) {
+        Ok(says) => {
+            feed.hand(says);
+            Ok(None)
+        },
+        Err(fault) => Err(strip_sayings(feed, fault)),
+    }
+}
+
+// Makes an event that the feed gave; a cut is made as the actor makes it, whatever the event carries. Returns the event if it is held back.
 fn make<M: Machine, K: Keeper<M::Body>, F: Feed<M::Body, M::Say>>(
     mail: &Mail<M::Body>,
     actor: &mut Actor<M, K>,
@@ -142,9 +186,16 @@ fn make<M: Machine, K: Keeper<M::Body>, F: Feed<M::Body, M::Say>>(
     ensures still_owned { Owns mail.now actor.new.seat }
     ensures me { actor.new.node.me ≡ actor.old.node.me }
     ensures makes { (o : Outset M.Body M.Say M K) →
-        Underway M.Body.same M.steps M.content F.saw (asked_by actor.old.node.me event) o actor.old feed.old →
-        Makes M.Body.same M.steps M.content F.saw K.holds K.finds K.failures o actor.new feed.new result }
+        Underway M.Body.same M.steps M.content M.loaded F.saw (asked_by actor.old.node.me event) o actor.old feed.old →
+        Makes M.Body.same M.steps M.content M.loaded F.saw K.holds K.finds K.failures o actor.new feed.new result }
+    ensures cuts { is_own_cut actor.old.node.me event ≡ true → (view : View M.Body) → StandsFor actor.old view → OnOk result
+        (IsCut M.Body.same M.steps M.content M.loaded K.holds K.finds K.failures (own_cut M.saved M.content actor.old.log)
+        actor.old actor.new view) }
 {
+    if is_own_cut(actor.me(), &event) {
+        drop(event);
+        return cut(mail, actor, feed);
+    }
     if !is_own(actor.me(), &event) {
         drop(event);
         return Ok(None);
@@ -169,8 +220,8 @@ pub(crate) fn make_events<M: Machine, K: Keeper<M::Body>, F: Feed<M::Body, M::Sa
     requires owned { Owns mail.now actor.old.seat }
     ensures still_owned { Owns mail.now actor.new.seat }
     ensures makes { (o : Outset M.Body M.Say M K) →
-        Waits M.Body.same M.steps M.content F.saw held.old o actor.old feed.old →
-        Keeps M.Body.same M.steps M.content F.saw K.holds K.finds K.failures o actor.new feed.new held.new result }
+        Waits M.Body.same M.steps M.content M.loaded F.saw held.old o actor.old feed.old →
+        Keeps M.Body.same M.steps M.content M.loaded F.saw K.holds K.finds K.failures o actor.new feed.new held.new result }
 {
     for _ in 0..EVENTS_A_TURN {
         let Some(event) = next_event(actor, feed, held) else {

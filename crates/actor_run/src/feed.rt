@@ -16,6 +16,8 @@ pub struct Seen {
     pub heard: Option<Heard>,
     /// The length of the node's log; 0 if the node is down.
     pub applied: u64,
+    /// The floor, up to which the node's snapshot gives its log.
+    pub floor: u64,
     /// Whether entries are pending.
     pub pending: bool,
     /// The peers to which the last turn posted.
@@ -37,7 +39,8 @@ pub trait Feed<B, Y> {
     // It has given these events so far, and got these sayings, oldest first. A feed that claims nothing says so of all lists.
     ghost saw: { Self → List (Event B) → List Y → Type 0 };
 
-    /// Returns the next event, if there is one: a Take, Tick, Start or Suspect of the node; any other is passed over.
+    /// Returns the next event, if there is one: a Take, Tick, Start, Suspect or Cut of the node; any other is passed over. A Cut need carry
+    /// nothing: the actor cuts to what its log is saved as.
     fn next(&mut self, seen: Seen) -> Option<Event<B>>
         ensures { (given : List (Event B)) (got : List Y) → saw self.old given got → saw self.new (given ++ option_to_list result) got };
 

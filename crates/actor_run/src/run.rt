@@ -20,8 +20,8 @@ fn take_turn<M: Machine, K: Keeper<M::Body>, F: Feed<M::Body, M::Say>>(
     requires owned { Owns mail.now actor.old.seat }
     ensures still_owned { Owns mail.now actor.new.seat }
     ensures turned { (held : Option (Event M.Body)) (o : Outset M.Body M.Say M K) →
-        Waits M.Body.same M.steps M.content F.saw held o actor.old feed.old →
-        Keeps M.Body.same M.steps M.content F.saw K.holds K.finds K.failures o actor.new feed.new held result }
+        Waits M.Body.same M.steps M.content M.loaded F.saw held o actor.old feed.old →
+        Keeps M.Body.same M.steps M.content M.loaded F.saw K.holds K.finds K.failures o actor.new feed.new held result }
 {
     match actor.turn(mail) {
         Ok(says) => {
@@ -42,8 +42,8 @@ fn round<M: Machine, K: Keeper<M::Body>, F: Feed<M::Body, M::Say>>(
     requires owned { Owns mail.now actor.old.seat }
     ensures still_owned { Owns mail.now actor.new.seat }
     ensures makes { (o : Outset M.Body M.Say M K) →
-        Waits M.Body.same M.steps M.content F.saw held.old o actor.old feed.old →
-        Keeps M.Body.same M.steps M.content F.saw K.holds K.finds K.failures o actor.new feed.new held.new result }
+        Waits M.Body.same M.steps M.content M.loaded F.saw held.old o actor.old feed.old →
+        Keeps M.Body.same M.steps M.content M.loaded F.saw K.holds K.finds K.failures o actor.new feed.new held.new result }
 {
     match make_events(mail, actor, feed, held) {
         Ok(()) => take_turn(mail, actor, feed),
@@ -52,7 +52,8 @@ fn round<M: Machine, K: Keeper<M::Body>, F: Feed<M::Body, M::Say>>(
 }
 
 /// Runs the actor for as long as the gate allows, at most 2^64 - 1 turns. Before each turn makes at most 64 events that the feed gives;
-/// passes over those that are not a Take of a transport from 1 on, Tick, Start or Suspect of its node. Hands all sayings to the feed.
+/// passes over those that are not a Take of a transport from 1 on, Tick, Start, Suspect or Cut of its node. A Cut is made by `Actor::cut`,
+/// whatever it carries. Hands all sayings to the feed.
 ///
 /// An event that returns `Rounds` is dropped; one that returns `Full` is made again before the next turn, before any other. Any other fault
 /// ends the run and is returned, without its sayings. Waits nowhere but in the gate.
@@ -65,7 +66,7 @@ pub fn run_node<M: Machine, K: Keeper<M::Body>, G: Gate, F: Feed<M::Body, M::Say
     requires owned { Owns mail.now actor.old.seat }
     ensures still_owned { Owns mail.now actor.new.seat }
     ensures runs { (view : View M.Body) (gave : List (Event M.Body)) (got : List M.Say) → StandsFor actor.old view → F.saw feed.old gave got →
-        Runs M.Body.same M.steps M.content F.saw K.holds K.finds K.failures
+        Runs M.Body.same M.steps M.content M.loaded F.saw K.holds K.finds K.failures
         (record { actor = actor.old; view = view; gave = gave; got = got }) actor.new feed.new result }
 {
     let mut held = None;

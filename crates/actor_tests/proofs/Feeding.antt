@@ -1,5 +1,5 @@
 -- What the contract of a run says with a feed that tells.
-use Rattle.std.proofs.Common.{◌≡◌, ℕ, Bool, true, false, Result, Ok, Err, List, [], ◌∷◌, ◌++◌, sym, ap, ◌∙◌}
+use Rattle.std.proofs.Common.{◌≡◌, ℕ, Bool, true, false, Result, Ok, Err, List, [], ◌∷◌, ◌++◌, Option, sym, ap, ◌∙◌}
 use Rattle.std.specs.Prelude.{is_ok}
 use Rattle.std.proofs.lemmas.Bool.{false≢true}
 use Rattle.std.proofs.lemmas.List.{append-nil}
@@ -35,13 +35,13 @@ gets_more gave given old new said says was is keeps told whole =
 
 -- what a run makes of them
 
-pub told_all : {B S Y M K F : Type 0} (same : B → B → Bool) (steps : Steps B S Y) (content : M → S) (saw : F → List (Event B) → List Y → Type 0)
-    (holds : K → Rows B → Type 0) (finds : K → Rows B → Type 0) (failures : K → ℕ) (old now : Acting B M K) (view : View B) (feed : F)
-    (gave : List (Event B)) (got : List Y) (result : Result (Unit {0}) (ActorFault Y)) → is_ok result ≡ true
+pub told_all : {B S Y M K F : Type 0} (same : B → B → Bool) (steps : Steps B S Y) (content : M → S) (loaded : List ℕ → Option S)
+    (saw : F → List (Event B) → List Y → Type 0) (holds : K → Rows B → Type 0) (finds : K → Rows B → Type 0) (failures : K → ℕ)
+    (old now : Acting B M K) (view : View B) (feed : F) (gave : List (Event B)) (got : List Y) (result : Result (Unit {0}) (ActorFault Y)) → is_ok result ≡ true
     → ((given : List (Event B)) (said : List Y) → saw feed given said → (gave ≡ given) × (got ≡ said))
-    → Runs same steps content saw holds finds failures (record { actor = old; view = view; gave = []; got = [] }) now feed result
-    → TellsAll same steps content old view gave got
-told_all same steps content saw holds finds failures old now view feed gave got (Ok _) ok shows runs =
+    → Runs same steps content loaded saw holds finds failures (record { actor = old; view = view; gave = []; got = [] }) now feed result
+    → TellsAll same steps content loaded old view gave got
+told_all same steps content loaded saw holds finds failures old now view feed gave got (Ok _) ok shows runs =
     let under = runs.1.under in
     let all = shows under.given under.said under.told in
     record {
@@ -49,6 +49,6 @@ told_all same steps content saw holds finds failures old now view feed gave got 
       held = runs.0;
       back = runs.1.back;
       acts = under.went.acts ∙ ap (asked_in old.node.me) (sym all.0);
-      says = λ first follows. all.1 ∙ under.went.says first [] follows;
+      says = λ first logs follows takes. all.1 ∙ under.went.says first [] logs follows takes;
     }
-told_all same steps content saw holds finds failures old now view feed gave got (Err fault) ok shows runs = absurd (false≢true ok)
+told_all same steps content loaded saw holds finds failures old now view feed gave got (Err fault) ok shows runs = absurd (false≢true ok)

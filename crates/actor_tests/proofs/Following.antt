@@ -1,14 +1,15 @@
 -- What a node plans follows from what its seat knows.
-use Rattle.std.proofs.Common.{◌≡◌, ℕ, Bool, true, false, eqb, refl, ap, sym, subst, ◌∙◌}
+use Rattle.std.proofs.Common.{◌≡◌, ℕ, Bool, true, false, Option, Some, None, eqb, refl, ap, sym, subst, ◌∙◌}
 use Rattle.std.proofs.lemmas.Bool.{and_from, eq-eqb}
-use Rattle.std.specs.Prelude.{◌==◌}
+use Rattle.std.specs.Prelude.{◌==◌, MatchOption}
 use Rattle.cluster_world.proofs.Lists.{has_right}
 use Rattle.cluster_world.specs.Has.{Has, here}
 use Rattle.mail_table.proofs.Parcels.{through_more}
 use Rattle.mail_table.specs.Boxes.{Follows, Received}
-use Rattle.mail_table.specs.Seats.{Mailed, Seated, Owns}
-use Rattle.mail_table.specs.Views.{box_of, receiving, through}
+use Rattle.mail_table.specs.Seats.{Mailed, Seated, Owns, knows}
+use Rattle.mail_table.specs.Views.{box_of, lost, receiving, through}
 use Rattle.mail_table.specs.declared.part.Part.{Part}
+use Rattle.actor_tests.specs.Fresh.{IsFresh}
 use Rattle.actor_tests.specs.Standing.{Knows}
 use Rattle.paxos_node.specs.Adopting.{Planned}
 use Rattle.paxos_node.specs.Events.{owner, possible}
@@ -68,3 +69,17 @@ knows_still m s t h k owned me seen =
       rows = k.rows;
       opened = ap (λ v. v.opened) seen ∙ k.opened;
     }
+
+-- a fetch opens no node
+pub fresh_after : {B : Type 0} (m : Mailed) (s t : Seated B) (at : ℕ) (r : Option (Packet B))
+    → MatchOption r (t ≡ knows (lost at s.part) s) (λ p. t ≡ knows (receiving at p s.part) s) → IsFresh m s → Owns m t → IsFresh m t
+fresh_after {B} m s t at None is fresh owned = (
+  owned,
+  ap (λ (z : Seated B). z.part.seen.opened) is ∙ fresh.1,
+  subst (λ k. IsMember m.members k) (sym (ap (λ (z : Seated B). z.part.me) is)) fresh.2,
+)
+fresh_after {B} m s t at (Some p) is fresh owned = (
+  owned,
+  ap (λ (z : Seated B). z.part.seen.opened) is ∙ fresh.1,
+  subst (λ k. IsMember m.members k) (sym (ap (λ (z : Seated B). z.part.me) is)) fresh.2,
+)

@@ -79,6 +79,28 @@ pub fn last_seat<B: Body>(
     }
 }
 
+/// The actor of this seat.
+pub fn opened_at<M: Machine, K: Keeper<M::Body>>(
+    rt: &impl Abort,
+    alloc: Global,
+    mail: &Mail<M::Body>,
+    seat: NodeSeat<M::Body>,
+    members: Members,
+    machine: M,
+    keeper: K,
+) -> Actor<M, K>
+    requires seat { IsFresh mail.now seat }
+    requires members { members ≡ mail.now.members }
+    requires machine { M.has_failed machine ≡ false }
+    ensures { Owns mail.now result.seat }
+{
+    let me = seat.node();
+    match Actor::open(alloc, mail, seat, me, members, machine, keeper) {
+        Ok(actor) => actor,
+        Err(_) => panic!(rt; "node {me} was not opened"),
+    }
+}
+
 /// The actor of the last of these seats.
 pub fn opened<M: Machine, K: Keeper<M::Body>>(
     rt: &impl Abort,
@@ -96,11 +118,7 @@ pub fn opened<M: Machine, K: Keeper<M::Body>>(
     ensures owned { Owns mail.now result.seat }
 {
     let seat = last_seat(rt, mail, seats);
-    let me = seat.node();
-    match Actor::open(alloc, mail, seat, me, members, machine, keeper) {
-        Ok(actor) => actor,
-        Err(_) => panic!(rt; "node {me} was not opened"),
-    }
+    opened_at(rt, alloc, mail, seat, members, machine, keeper)
 }
 
 /// Takes a turn. Returns whether a packet moved.

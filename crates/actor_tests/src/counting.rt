@@ -52,6 +52,8 @@ pub enum Asked {
     Tick,
     /// Takes a turn.
     Turn,
+    /// It cuts its log.
+    Cut,
     /// It takes this number of this transport.
     Take { transport: u32, number: u32 },
 }
@@ -62,6 +64,7 @@ pub fn ask(actor: &mut Counting<'_>, asked: Asked) -> Answer<Sum> {
         Asked::Start => actor.start(),
         Asked::Tick => actor.tick(),
         Asked::Turn => actor.turn(),
+        Asked::Cut => actor.cut(),
         Asked::Take { transport, number } => actor.take(transport, Number::new(number)),
     }
 }
@@ -146,7 +149,8 @@ const AT_TWO: Transport = Transport {
 
 const SUMS: &[Sum] = &[(AT_TWO, 5), (AT_TWO, 11)];
 
-fn serves(rt: &impl Abort, actors: &mut [Counting<'_>], heard: &mut Heard<Sum>) {
+/// The session, after which all three have the same log.
+pub fn serves(rt: &impl Abort, actors: &mut [Counting<'_>], heard: &mut Heard<Sum>) {
     goes(rt, actors, heard, SESSION);
     have_log(rt, actors, FOUR);
     check!(rt; heard.says.as_slice() == SUMS && heard.faults.is_empty());

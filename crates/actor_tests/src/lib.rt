@@ -1,6 +1,6 @@
 //! Tests of the mail table between nodes; of actors over their public calls, of three of them at a table, with a machine that adds up and
 //! with failing keepers; and of runs of actors, each beside its table: full outboxes, sessions with a realm whose logs are gathered, and three
-//! nodes on threads of their own. A crate with tests is proved twice, so they are here.
+//! nodes on threads of their own; with cuts, and snapshots that are taken. A crate with tests is proved twice, so they are here.
 #![tactic(auto)]
 
 #[cfg(test)]
@@ -13,6 +13,8 @@ mod check;
 mod counting;
 #[cfg(test)]
 mod crashing;
+#[cfg(test)]
+mod cutting;
 #[cfg(test)]
 mod hearing;
 #[cfg(test)]

@@ -3,8 +3,10 @@ ghost use Rattle.std.specs.Prelude.{◌≡◌, false};
 ghost use Rattle.realm_machine.specs.Machine.{has_failed};
 
 use crate::check::Check;
+use node_actor::Entry;
 use realm_machine::{Act, Id, Limits, Out, Realm, Say, Shared, Transport};
 use realm_snapshot::KeptRealm;
+use replica_machine::AppliedLog;
 use std::alloc::Global;
 use std::panic::Expect;
 use std::process::Abort;
@@ -24,6 +26,16 @@ pub fn realm(rt: &impl Abort, alloc: Global) -> KeptRealm
 {
     let name = String::from_str(alloc, "realm1").expect(rt, "memory for a name");
     KeptRealm::new(Realm::new(alloc, name, LIMITS))
+}
+
+/// The octets of a log of one entry, which a new realm has followed.
+pub fn saved_realm(rt: &impl Abort, alloc: Global) -> Vec<u8> {
+    let mut log = AppliedLog::new(alloc, realm(rt, alloc));
+    let entries = vec![in alloc; Entry::Boot { node: 1, boot: 1 }].expect(rt, "room for an entry");
+    drop(log.append(entries).expect(rt, "a log of one entry"));
+    let octets = log.save().expect(rt, "room for octets");
+    drop(log);
+    octets
 }
 
 /// A client says this; the draw for it is 1.

@@ -1,17 +1,18 @@
 // What actors refuse, what is no event, and how many acts wait.
-use crate::carrying::{at, has_log, number};
+use crate::carrying::{all_turns, at, has_log, number};
 use crate::check::Check;
 use crate::counting::{Asked, Counting, NONE_FAILS, Sum, ask};
 use crate::crashing::restarted;
+use crate::hearing::Heard;
 use crate::trial::{Trial, tried};
-use node_actor::ActorFault;
+use node_actor::{ActorFault, Machine};
 use paxos_packets::{Ballot, Change, Snapshot, Votes};
 use std::alloc::Global;
 use std::process::Abort;
 use store_keeper::{Keeper, KeeperFault, MemKeeper};
 use test_checks::{check, check_eq};
-use test_machines::{Count, Number};
-use test_stands::{Begun, Left, close, close_left};
+use test_machines::{Count, Number, Scant};
+use test_stands::{Begun, Left, Plays, SeatedActor, Source, close, close_left, with_actors};
 
 // Acts that are pending.
 
@@ -49,9 +50,10 @@ fn is_still(rt: &impl Abort, actor: &Counting<'_>) {
     has_log(rt, actor, &[]);
 }
 
-// What is no event.
+// What is no event: a cut is none while nothing is applied.
 const NO_EVENTS: &[Asked] = &[
     Asked::Turn,
+    Asked::Cut,
     Asked::Take {
         transport: 0,
         number: 5,
@@ -99,12 +101,12 @@ pub fn begins_again(rt: &impl Abort, alloc: Global, actor: Counting<'_>) {
 
 // Restarts on other stores.
 
-/// How often the node of another store was started, the round and the node of the ballot that it promised then, and the floor of its
-/// snapshot; 0 for none.
-pub type Other = (u64, (u64, u8), u8);
+// How often the node of another store was started, the round and the node of the ballot that it promised then, and the floor of its
+// snapshot; 0 for none.
+type Other = (u64, (u64, u8), u8);
 
-/// That store.
-pub fn keeper_with(rt: &impl Abort, alloc: Global, other: &Other) -> MemKeeper<Number> {
+// That store.
+fn keeper_with(rt: &impl Abort, alloc: Global, other: &Other) -> MemKeeper<Number> {
     let (boots, (round, _), _) = *other;
     let mut keeper = MemKeeper::new(alloc);
     for _ in 0..boots {
@@ -139,8 +141,8 @@ fn promise(rt: &impl Abort, alloc: Global, keeper: &mut MemKeeper<Number>, other
     drop(change);
 }
 
-/// How often its node was started.
-pub fn boots_of(rt: &impl Abort, keeper: &mut MemKeeper<Number>) -> u64 {
+// How often its node was started.
+fn boots_of(rt: &impl Abort, keeper: &mut MemKeeper<Number>) -> u64 {
     let rows = keeper.load().expect(rt, "what is stored");
     rows.boot
 }
@@ -206,6 +208,67 @@ pub fn refuses(rt: &impl Abort, alloc: Global, actor: Counting<'_>) {
 #[test]
 fn other_stores_are_refused(rt: HostRuntime) {
     tried(&rt, rt.alloc(), &NONE_FAILS, Trial::Refuses);
+}
+
+// A machine for which memory runs out as it is saved.
+
+// Three of them, over stores in memory.
+#[derive(Clone, Copy)]
+struct Scants;
+
+impl Source<Scant, MemKeeper<Number>> for Scants {
+    fn machine(&self, alloc: Global) -> Scant {
+        Scant::new(alloc)
+    }
+
+    fn keeper(&self, alloc: Global, _node: u8) -> MemKeeper<Number> {
+        MemKeeper::new(alloc)
+    }
+}
+
+// After two inputs the machine of node 1 is not saved, which ends the actor. Nothing is forgotten.
+fn is_not_saved<M: Machine<Body = Number>, K: Keeper<Number>>(
+    rt: &impl Abort,
+    actors: &mut [SeatedActor<'_, M, K>],
+    heard: &mut Heard<M::Say>,
+) {
+    check_eq!(rt; number(at(rt, actors, 1).start()), 0);
+    all_turns(rt, actors, heard);
+    check_eq!(rt; number(at(rt, actors, 1).take(1, Number::new(5))), 0);
+    all_turns(rt, actors, heard);
+    for fault in [76, 71] {
+        let first = at(rt, actors, 1);
+        check_eq!(rt; number(first.cut()), fault);
+        check_eq!(rt; (first.floor(), first.applied(), first.log().len()), (0, 2, 2));
+    }
+}
+
+#[derive(Drop)]
+struct Saving<R> {
+    rt: R,
+    alloc: Global,
+}
+
+impl<R: Abort> Plays<Scant, MemKeeper<Number>> for Saving<&R> {
+    type End = ();
+
+    fn play(&mut self, actors: &mut Vec<SeatedActor<'_, Scant, MemKeeper<Number>>>) {
+        let mut heard = Heard::nothing(self.alloc);
+        is_not_saved(self.rt, actors.as_mut_slice(), &mut heard);
+        drop(heard);
+    }
+}
+
+#[test]
+fn memory_may_run_out_at_a_cut(rt: HostRuntime) {
+    let mut saving = Saving {
+        rt: &rt,
+        alloc: rt.alloc(),
+    };
+    with_actors::<Scant, MemKeeper<Number>, _, _>(rt.alloc(), &Scants, &mut saving).expect(
+        &rt,
+        "three actors",
+    );
 }
 
 // The texts of faults.

@@ -6,6 +6,7 @@ ghost use Rattle.node_actor.specs.Views.{View, StandsFor};
 ghost use Rattle.paxos_node.specs.declared.event.Event.{Event};
 ghost use Rattle.paxos_packets.specs.declared.transport.Transport.{Transport};
 ghost use Rattle.replica_machine.specs.Examples.{adds};
+ghost use Rattle.test_machines.specs.Sum.{loaded_sum};
 ghost use Rattle.actor_tests.specs.Telling.{Told, TellsAll};
 
 use crate::counting::Sum;
@@ -145,7 +146,7 @@ pub fn run_telling<G: Gate, F: Asks>(
     requires got { feed.old.got.items ≡ [] }
     ensures still_owned { Owns mail.now actor.new.seat }
     ensures told { result ≡ true → feed.new.short ≡ false → (view : View ℕ) → StandsFor actor.old view →
-        TellsAll eqb adds (λ c. c.0) actor.old view feed.new.gave.items feed.new.got.items }
+        TellsAll eqb adds (λ c. c.0) loaded_sum actor.old view feed.new.gave.items feed.new.got.items }
 {
     let done = run_node(mail, actor, gate, feed);
     let good = done.is_ok();

@@ -1,6 +1,7 @@
 // What is tried with three actors.
 use crate::counting::{Counting, Failing, fails, serve_and_leave};
-use crate::crashing::outlives;
+use crate::crashing::{outlives, outlives_cut};
+use crate::cutting::cuts_twice;
 use crate::refusing::{begins_again, first_does, refuses};
 use crate::rotating::rotates;
 use crate::signs::shows;
@@ -16,6 +17,8 @@ pub enum Trial {
     Serves,
     Fails { node: u8, wanted: bool },
     Outlives,
+    CutsTwice,
+    OutlivesCut { floor: u64, by_feed: bool },
     Fills,
     Rests,
     Rotates,
@@ -50,6 +53,10 @@ impl<R: Abort> Plays<Count, MemKeeper<Number>> for Trying<&R> {
             Trial::Serves => serve_and_leave(rt, alloc, actors),
             Trial::Fails { node, wanted } => fails(rt, alloc, actors.as_mut_slice(), node, wanted),
             Trial::Outlives => outlives(rt, alloc, actors),
+            Trial::CutsTwice => cuts_twice(rt, alloc, actors.as_mut_slice()),
+            Trial::OutlivesCut { floor, by_feed } => outlives_cut(
+                rt, alloc, actors, floor, by_feed,
+            ),
             Trial::Fills => first_does(rt, actors.as_mut_slice(), true),
             Trial::Rests => first_does(rt, actors.as_mut_slice(), false),
             Trial::Rotates => rotates(rt, actors.as_mut_slice()),

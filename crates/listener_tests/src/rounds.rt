@@ -17,6 +17,7 @@ pub fn quiet() -> Seen {
         from: None,
         heard: None,
         applied: 0,
+        floor: 0,
         pending: false,
         posted: NodeSet::new(),
         waiting: [0; 7],

@@ -1,7 +1,7 @@
 -- A boot begins, or does not.
 use Rattle.std.proofs.Common.{◌≡◌, ◌⊎◌, inl, inr, ⊎_elim, ◌<◌, ◌≤◌, ◌-◌, ◌^◌, ◌∙◌, ℕ, suc, Bool, true, false, cond, Option, Some, None}
 use Rattle.std.proofs.Common.{Result, Ok, Err, refl, sym, ap, subst, arith}
-use Rattle.std.specs.Prelude.{IfOk, IfErr, nat_lt, is_some}
+use Rattle.std.specs.Prelude.{IfOk, IfErr, List, nat_lt}
 use Rattle.std.proofs.lemmas.Bool.{and_from, and_parts, false≢true, leb-true, lt-ltb, ltb-true, ltb-false}
 use Rattle.paxos_packets.specs.Ballot.{ballot_same, ballot_sound}
 use Rattle.paxos_packets.specs.Body.{IsEquality}
@@ -23,8 +23,9 @@ use Rattle.node_actor.specs.Compare.{same_promise, same_base, is_ahead, is_later
 use Rattle.node_actor.specs.declared.compare.Fit.{Fit}
 use Rattle.node_actor.specs.declared.compare.Fit.TheVariants.{Left, Meant, Others}
 use Rattle.node_actor.specs.Posts.{Posted}
-use Rattle.node_actor.specs.Beginning.{IsLater, MayBegin, from_left, from_meant, IsEmpty, Boots, NoDamage}
-use Rattle.node_actor.specs.Preparing.{judge_of, Loads, again, Found, found_left, found_meant, IsWorn, worn_left, worn_meant}
+use Rattle.node_actor.specs.Beginning.{IsLater, MayBegin, first_time, from_left, from_meant, IsEmpty, Boots}
+use Rattle.actor_parts.specs.Snapshots.{is_no_log}
+use Rattle.node_actor.specs.Preparing.{judge_of, Loads, Fits, anew, again, Found, found_left, found_meant, IsWorn, worn_left, worn_meant}
 use Rattle.node_actor.specs.Preparing.{Refuses, others, worn, strayed, Readied}
 
 -- rows beside others
@@ -94,24 +95,6 @@ module _ {B : Type 0} (same : B → B → Bool) (k r : Rows B) where
       from None e m = absurd (false≢true m)
       from (Some o) e m = (o, e, m)
 
--- rows have a snapshot, or none
-
-pub none_of : (s : Option taken.Snapshot) → is_some s ≡ false → s ≡ None
-none_of None e = refl
-none_of (Some t) e = absurd (false≢true (sym e))
-
--- if those of a boot have one, so had those that were held
-pub damage_of : {B K Y : Type 0} (holds : K → Rows B → Type 0) (is_faithful : K → Type 0) (old new : K) (rows : Rows B)
-    → is_some rows.snapshot ≡ true → (is_faithful new → is_faithful old)
-    → (is_faithful new → (r : Rows B) → holds old r → rows ≡ raised r) → NoDamage holds is_faithful {Y = Y} old new (Keeper store.Damaged)
-damage_of {B = B} holds is_faithful old new rows some faithful right =
-    record {
-      faithful = faithful;
-      sound =
-          λ f r held none e.
-          false≢true (sym (ap (λ (x : Rows B). is_some x.snapshot) (right f r held) ∙ ap is_some none) ∙ some);
-    }
-
 -- what the store has is judged
 
 module _ {Y : Type 0} where
@@ -148,8 +131,8 @@ module _ {Y : Type 0} where
       go true e h = absurd cc
       go false e h = let low = ltb-false n (2 ^ 62 - 1) e in (cc, inr (refl, omega (arith, low)))
 
-module _ {B Y K : Type 0} (same : B → B → Bool) (holds finds : K → Rows B → Type 0) (is_faithful : K → Type 0) (failures : K → ℕ)
-    (p : Posted B) (old mid : K) where
+module _ {B S Y K : Type 0} (same : B → B → Bool) (loaded : List ℕ → Option S) (holds finds : K → Rows B → Type 0) (is_faithful : K → Type 0)
+    (failures : K → ℕ) (p : Posted B) (old mid : K) where
   module _ (k r : Rows B) (fit : Fit) (n : ℕ) (some : p.rows ≡ Some k) (loads : Loads same holds finds is_faithful failures old mid r)
       (fits : fit_of same p.failed k r ≡ fit) (counts : n ≡ p.seat.part.events) where
     pub found_of : (res : Result (Rows B × Bool) (ActorFault Y)) → IfOk res (λ it. (it.0 ≡ r) × (judge_of {Y = Y} fit n ≡ Ok it.1))
@@ -161,11 +144,11 @@ module _ {B Y K : Type 0} (same : B → B → Bool) (holds finds : K → Rows B 
         (λ x. found_meant k some loads (fits ∙ x.0) x.1 (subst (λ e. suc e < 2 ^ 62) counts x.2)) (judge_found {Y = Y} fit n it.1 h.1))
 
     pub refused_of : (res : Result (Rows B × Bool) (ActorFault Y)) → IfErr res (λ f. judge_of fit n ≡ Err f)
-        → IfErr res (λ f. Refuses same holds finds is_faithful failures p old mid f)
+        → IfErr res (λ f. Refuses same loaded holds finds is_faithful failures p old mid f)
     refused_of (Ok it) h = tt
     refused_of (Err f) h =
-        ⊎_elim (λ x. subst (λ g. Refuses same holds finds is_faithful failures p old mid g) (sym x.1) (others k r some loads (fits ∙ x.0)))
-        (λ x. subst (λ g. Refuses same holds finds is_faithful failures p old mid g) (sym x.0) (worn (worn_of x.1)))
+        ⊎_elim (λ x. subst (λ g. Refuses same loaded holds finds is_faithful failures p old mid g) (sym x.1) (others k r some loads (fits ∙ x.0)))
+        (λ x. subst (λ g. Refuses same loaded holds finds is_faithful failures p old mid g) (sym x.0) (worn (worn_of x.1)))
         (judge_refused fit n f h)
       where
         worn_of : (((fit ≡ Left) × (2 ^ 62 ≤ n)) ⊎ ((fit ≡ Meant) × (2 ^ 62 ≤ suc n)))
@@ -175,49 +158,68 @@ module _ {B Y K : Type 0} (same : B → B → Bool) (holds finds : K → Rows B 
 
 -- a boot after that
 
-module _ {B K : Type 0} (same : B → B → Bool) (holds finds : K → Rows B → Type 0) (is_faithful : K → Type 0) (failures : K → ℕ)
-    (p : Posted B) (old mid : K) where
-  pub loads_of : (r : Rows B) (m : Bool) → Found same holds finds is_faithful failures p old mid r m
+module _ {B S K : Type 0} (same : B → B → Bool) (loaded : List ℕ → Option S) (holds finds : K → Rows B → Type 0) (is_faithful : K → Type 0)
+    (failures : K → ℕ) (p : Posted B) (old mid : K) where
+  loads_found : (r : Rows B) (m : Bool) → Found same holds finds is_faithful failures p old mid r m
       → Loads same holds finds is_faithful failures old mid r
-  loads_of r m (found_left k some loads fits is counts) = loads
-  loads_of r m (found_meant k some loads fits is counts) = loads
+  loads_found r m (found_left k some loads fits is counts) = loads
+  loads_found r m (found_meant k some loads fits is counts) = loads
 
-  may_of : IsEquality same → (r x : Rows B) (m : Bool) → Found same holds finds is_faithful failures p old mid r m
+  pub loads_of : (r : Rows B) (m : Bool) → Fits same holds finds is_faithful failures p old mid r m
+      → Loads same holds finds is_faithful failures old mid r
+  loads_of r m (anew none off loads counts) = loads
+  loads_of r m (again found) = loads_found r m found
+
+  may_found : IsEquality same → (r x : Rows B) (m : Bool) → Found same holds finds is_faithful failures p old mid r m
       → is_later same r x ≡ true → MayBegin p x m
-  may_of ok r x m (found_left k some loads fits is counts) later = from_left k some is (later_is same ok k r x
+  may_found ok r x m (found_left k some loads fits is counts) later = from_left k some is (later_is same ok k r x
       (fit_left same k r p.failed fits) later) counts
-  may_of ok r x m (found_meant k some loads fits is counts) later =
+  may_found ok r x m (found_meant k some loads fits is counts) later =
       let o = fit_meant same k r p.failed fits in
       from_meant k o.0 some o.1 is (later_is same ok (accepting.adopted k o.0.change) r x o.2 later) counts
 
+  may_of : IsEquality same → (r x : Rows B) (m : Bool) → Fits same holds finds is_faithful failures p old mid r m
+      → is_later same r x ≡ true → MayBegin p x m
+  may_of ok r x m (anew none off loads counts) later = first_time none off counts
+  may_of ok r x m (again found) later = may_found ok r x m found later
+
+  -- rows in a later boot have the same snapshot
+  pub snapshot_of : (r x : Rows B) → is_later same r x ≡ true → x.snapshot ≡ r.snapshot
+  snapshot_of r x later =
+      let c = and_parts (nat_lt r.boot x.boot) _ later in
+      let d = and_parts (same_promise r.promised x.promised) _ c.1 in
+      sym (base_is r.snapshot x.snapshot (and_parts (same_base r.snapshot x.snapshot) _ d.1).0)
+
   pub strayed_of : {Y : Type 0} (new : K) → IsEquality same → (r x : Rows B) (m : Bool)
-      → Found same holds finds is_faithful failures p old mid r m
+      → Fits same holds finds is_faithful failures p old mid r m → is_no_log loaded r.snapshot ≡ false
       → Boots holds is_faithful mid new x → ((y : Rows B) → holds mid y → FindsOr finds mid new (raised y)) → is_later same r x ≡ false
-      → Refuses same holds finds is_faithful failures {Y = Y} p old new (Keeper store.Damaged)
-  strayed_of new ok r x m found boots finds_or later =
-      strayed mid (again r m found)
-      (λ f. false≢true (sym later ∙ subst (λ y. is_later same r y ≡ true) (sym (boots.booted f r (loads_of r m found).held))
+      → Refuses same loaded holds finds is_faithful failures {Y = Y} p old new (Keeper store.Damaged)
+  strayed_of new ok r x m fits readable boots finds_or later =
+      strayed mid r m fits readable
+      (λ f. false≢true (sym later ∙ subst (λ y. is_later same r y ≡ true) (sym (boots.booted f r (loads_of r m fits).held))
       (later_raised same ok r)))
       (record { may = λ e. absurd cc; found = finds_or })
 
-  pub readied_again : (is_failed : K → Bool) (new : K) → IsEquality same → (r x : Rows B) (w : Waiting B) (m : Bool)
-      → Found same holds finds is_faithful failures p old mid r m → Boots holds is_faithful mid new x
+  pub readied_of : (is_failed : K → Bool) (new : K) → IsEquality same → (r x : Rows B) (w : Waiting B) (m : Bool)
+      → Fits same holds finds is_faithful failures p old mid r m → is_no_log loaded r.snapshot ≡ false → Boots holds is_faithful mid new x
       → ((y : Rows B) → holds mid y → FindsOr finds mid new (raised y)) → (is_faithful new → is_faithful mid) → is_failed new ≡ false
       → IsEmpty p.me p.members w → is_later same r x ≡ true
-      → Readied same holds finds is_faithful is_failed failures p old new (record { rows = x; outboxes = w; meant = m })
-  readied_again is_failed new ok r x w m found boots finds_or faithful whole empty later =
+      → Readied same loaded holds finds is_faithful is_failed failures p old new (record { rows = x; outboxes = w; meant = m })
+  readied_of is_failed new ok r x w m fits readable boots finds_or faithful whole empty later =
       record {
         mid = mid;
-        fits = again r m found;
+        rows = r;
+        fits = fits;
+        readable = readable;
+        snapshot = snapshot_of r x later;
         found = finds_or;
         faithful = faithful;
         boots = record {
           held = boots.held;
-          plain = boots.plain;
-          booted = λ f y h. boots.booted f y ((loads_of r m found).stays.same_rows y h);
+          booted = λ f y h. boots.booted f y ((loads_of r m fits).stays.same_rows y h);
           within = boots.within;
         };
-        may = may_of ok r x m found later;
+        may = may_of ok r x m fits later;
         whole = whole;
         empty = empty;
       }

@@ -1,12 +1,15 @@
 mod Renewing
 mod Booting
 mod Restarting
+mod Starting
 mod Sound
-mod Plain
+mod Bringing
+mod Joining
 mod Carrying
 mod Seating
 mod Since
 mod Viewing
+mod Cutting
 mod Leaving
 mod Tries
 mod Rounds

@@ -18,8 +18,8 @@ use Rattle.node_actor.specs.declared.turning.LastTurn.{LastTurn}
 use Rattle.node_actor.proofs.Seating.{seated_stands, seated_at}
 use Rattle.node_actor.proofs.Since.{stands_since, posts_since, acts_since}
 
-module _ {B S Y M K : Type 0} (same : B → B → Bool) (steps : Steps B S Y) (content : M → S) (holds : K → Rows B → Type 0)
-    (finds : K → Rows B → Type 0) (failures : K → ℕ) where
+module _ {B S Y M K : Type 0} (same : B → B → Bool) (steps : Steps B S Y) (content : M → S) (loaded : List ℕ → Option S)
+    (holds : K → Rows B → Type 0) (finds : K → Rows B → Type 0) (failures : K → ℕ) where
   -- the parts p at the seat s post; q at t fetches, so that u is its seat; then the event leaves r at w; l was shown, and y is
   module _ (l y : LastTurn) (p q r : Parted B M K) (s t u w : Seated B) (seated : IsSeated same (acting q t))
       (posts : PostsAlone y.posted (acting p s) (acting q t) s t)
@@ -29,9 +29,9 @@ module _ {B S Y M K : Type 0} (same : B → B → Bool) (steps : Steps B S Y) (c
     pub turns : (result : Result (Vec Y Global) (ActorFault Y)) → q.spoiled ≡ false → StaysAt u w
         → (y.from ≡ peer_got got) × (y.heard ≡ heard_got got)
         → ((v : View B) → Reaches q.spoiled (turn_event q.node.me q.node.members (packet_got got)) v u
-        → Acts same steps content holds finds failures (turn_event q.node.me q.node.members (packet_got got)) (acting q v) (acting r w) v
+        → Acts same steps content loaded holds finds failures (turn_event q.node.me q.node.members (packet_got got)) (acting q v) (acting r w) v
         result)
-        → Turns same steps content holds finds failures (acting_since l p s) (acting_since y r w) s result
+        → Turns same steps content loaded holds finds failures (acting_since l p s) (acting_since y r w) s result
     turns result fresh stays shows acts =
         record {
           mid = acting_since y q t;
@@ -44,9 +44,9 @@ module _ {B S Y M K : Type 0} (same : B → B → Bool) (steps : Steps B S Y) (c
           behind = u.part;
           fetches = subst (λ n. Fetches n (round p.node.me n first) t.part got u.part) members
               (subst (λ k. Fetches t.members (round k t.members first) t.part got u.part) me fetches);
-          acts = acts_since same steps content holds finds failures y (turn_event p.node.me p.node.members (packet_got got)) (acting q t)
+          acts = acts_since same steps content loaded holds finds failures y (turn_event p.node.me p.node.members (packet_got got)) (acting q t)
               (acting r w) t result
-              (subst (λ n. Acts same steps content holds finds failures (turn_event n.me n.members (packet_got got)) (acting q t)
+              (subst (λ n. Acts same steps content loaded holds finds failures (turn_event n.me n.members (packet_got got)) (acting q t)
               (acting r w) t result)
               posts.beside.only.node
               (acts t (subst (λ e. Reaches q.spoiled e t u) (λ i. turn_event (seated.me i) (seated.members i) (packet_got got))

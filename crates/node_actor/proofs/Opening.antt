@@ -1,11 +1,15 @@
 -- An actor begins, and goes on from what is left of one.
 use Rattle.std.proofs.Common.{◌≡◌, inl, inr, ℕ, Bool, true, false, Option, None, Some, refl, sym, ap, subst, ◌∙◌}
-use Rattle.std.specs.Prelude.{All, Contains, is_some}
+use Rattle.std.specs.Prelude.{All, Contains, List}
 use Rattle.std.proofs.lemmas.Bool.{false≢true}
 use Rattle.std.proofs.lemmas.List.Elements.{All-nil}
 use Rattle.paxos_packets.specs.declared.rows.Rows.{Rows}
 use Rattle.actor_outboxes.specs.Outboxes.{Waiting, waiting}
-use Rattle.replica_machine.specs.Log.{Follows}
+use Rattle.replica_machine.specs.Log.{LogState}
+use Rattle.paxos_planning.specs.Node.{NodeState}
+use Rattle.actor_parts.specs.Snapshots.{is_no_log}
+use Rattle.node_actor.specs.Snapshots.{IsFirstLog}
+use Rattle.node_actor.proofs.Starting.{first_follows}
 use Rattle.replica_machine.specs.Replay.{Steps}
 use Rattle.paxos_node.specs.Applying.{started}
 use Rattle.paxos_node.specs.Held.{Held}
@@ -32,7 +36,7 @@ node_at p r false f e = ap (λ n. started n r) e
 
 module _ {B M K : Type 0} (same : B → B → Bool) (holds : K → Rows B → Type 0) (is_faithful : K → Type 0) (is_failed : K
     → Bool) (p : Posted B)
-    (old keeper : K) (h : Held B) (w : Waiting B) (s : Seated B) (machine : M) (left : IsLeft same p)
+    (old keeper : K) (h : Held B) (w : Waiting B) (s : Seated B) (log : LogState B M) (left : IsLeft same p)
     (b : Begins holds is_faithful is_failed p old keeper h w s) where
   node_is : s.part.seen.node ≡ h.state
   node_is = ap (λ z. z.part.seen.node) b.renews.seat ∙ node_at p b.renews.rows b.renews.meant p.failed left.me ∙ sym b.node.state
@@ -40,7 +44,7 @@ module _ {B M K : Type 0} (same : B → B → Bool) (holds : K → Rows B → Ty
   none_waits : (k : ℕ) → All (Contains s.part.seen.sent) (waiting k w)
   none_waits k = subst (All (Contains s.part.seen.sent)) (sym (b.empty.waits k)) (All-nil (Contains s.part.seen.sent))
 
-  pub seated_first : IsSeated same (acting (first_parts h keeper w machine) s)
+  pub seated_first : IsSeated same (acting (first_parts h keeper w log) s)
   seated_first =
       let on = left_renewed same p b.renews.rows b.renews.meant s p.me p.members left refl refl b.renews.seat in
       record {
@@ -53,10 +57,12 @@ module _ {B M K : Type 0} (same : B → B → Bool) (holds : K → Rows B → Ty
         failed = λ o e. absurd cc;
       }
 
-  pub opens_first : {S Y : Type 0} (steps : Steps B S Y) (content : M → S)
-      → Follows steps content (content machine) (first_parts h keeper w machine).log
-      → Opens steps content holds is_faithful p machine old (acting (first_parts h keeper w machine) s)
-  opens_first steps content follows =
+  pub opens_first : {S Y : Type 0} (steps : Steps B S Y) (content : M → S) (loaded : List ℕ → Option S) (machine : M)
+      → IsFirstLog content loaded machine h.state.rows.snapshot log
+      → Opens steps content loaded holds is_faithful p machine old (acting (first_parts h keeper w log) s)
+  opens_first steps content loaded machine begins =
+      let begun : IsFirstLog content loaded machine b.renews.rows.snapshot log =
+      subst (λ (x : NodeState B). IsFirstLog content loaded machine x.rows.snapshot log) b.node.state begins in
       record {
         renews = b.renews;
         stands = record { seat = refl; node = sym node_is; waits = λ k peer. none_waits k };
@@ -65,7 +71,8 @@ module _ {B M K : Type 0} (same : B → B → Bool) (holds : K → Rows B → Ty
         waits = b.empty.waits;
         last = refl;
         fresh = refl;
-        follows = follows;
+        log = begun;
+        follows = λ first under after. first_follows steps content loaded machine first b.renews.rows.snapshot under log begun after;
       }
 
 -- the view goes on
@@ -96,22 +103,23 @@ module _ {B M K : Type 0} (same : B → B → Bool) (p : Posted B) (v : View B) 
         });
       }
 
-  pub resumes_of : {S Y : Type 0} (steps : Steps B S Y) (content : M → S) (holds : K → Rows B → Type 0) (is_faithful : K
-      → Type 0) (machine : M)
-      (keeper : K) → IsLeft same p → LeftOf same p v → Opens steps content holds is_faithful p machine keeper a → holds keeper r
+  pub resumes_of : {S Y : Type 0} (steps : Steps B S Y) (content : M → S) (loaded : List ℕ → Option S) (holds : K → Rows B → Type 0)
+      (is_faithful : K → Type 0) (machine : M)
+      (keeper : K) → IsLeft same p → LeftOf same p v → Opens steps content loaded holds is_faithful p machine keeper a → holds keeper r
       → is_faithful a.keeper
       → Resumes same p v r a
-  resumes_of steps content holds is_faithful machine keeper left of n held true_to =
+  resumes_of steps content loaded holds is_faithful machine keeper left of n held true_to =
       resumed n.stands (returns_of same p left a.seat r n.renews.rows (n.renews.boots.booted true_to r held) n.renews.boots.within v of
       n.renews.meant n.renews.may
       n.renews.seat)
 
 -- the node was never opened
 
--- so none of its rows are others, if they have no snapshot
-pub never_others : {B : Type 0} (same : B → B → Bool) (p : Posted B) (r : Rows B) → p.rows ≡ None → r.snapshot ≡ None → HasOthers same p r → ⊥
-never_others {B} same p r first none (inl e) = false≢true (sym (ap is_some none) ∙ e)
-never_others {B} same p r first none (inr h) = absurd (let off : ◌≡◌ {A = Option (Rows B)} None (Some h.0) = sym first ∙ h.1 in cc)
+-- so none of its rows are others, if a log is made of their snapshot
+pub never_others : {B S : Type 0} (same : B → B → Bool) (loaded : List ℕ → Option S) (p : Posted B) (r : Rows B) → p.rows ≡ None
+    → is_no_log loaded r.snapshot ≡ false → HasOthers same loaded p r → ⊥
+never_others {B} same loaded p r first none (inl e) = false≢true (sym none ∙ e)
+never_others {B} same loaded p r first none (inr h) = absurd (let off : ◌≡◌ {A = Option (Rows B)} None (Some h.0) = sym first ∙ h.1 in cc)
 
 opened_first : {B : Type 0} (r : Rows B) (o : Opened B) → o ≡ Never → opened_with r o ≡ With r
 opened_first r o e = subst (λ x. opened_with r x ≡ With r) (sym e) refl
@@ -120,12 +128,11 @@ first_seat : {B : Type 0} (meant : Bool) (s : Seated B) → seat_before meant No
 first_seat true s = refl
 first_seat false s = refl
 
-pub first_of : {B M K S Y : Type 0} (steps : Steps B S Y) (content : M → S) (holds : K → Rows B → Type 0) (is_faithful : K
-    → Type 0) (me members : ℕ)
-    (s : Seated B) (machine : M) (keeper : K) (a : Acting B M K) → s.part.me ≡ me → s.part.seen.opened ≡ Never
-    → Opens steps content holds is_faithful (record { me = me; members = members; rows = None; failed = None; seat = s }) machine keeper a
+pub first_of : {B M K S Y : Type 0} (steps : Steps B S Y) (content : M → S) (loaded : List ℕ → Option S) (holds : K → Rows B → Type 0)
+    (is_faithful : K → Type 0) (me members : ℕ) (s : Seated B) (machine : M) (keeper : K) (a : Acting B M K) → s.part.me ≡ me → s.part.seen.opened ≡ Never
+    → Opens steps content loaded holds is_faithful (record { me = me; members = members; rows = None; failed = None; seat = s }) machine keeper a
     → OpensFirst holds me s a
-first_of steps content holds is_faithful me members s machine keeper a is never n =
+first_of steps content loaded holds is_faithful me members s machine keeper a is never n =
     let seat : a.seat ≡ renewed n.renews.rows s = n.renews.seat ∙ ap (renewed n.renews.rows) (first_seat n.renews.meant s) in
     record {
       rows = n.renews.rows;

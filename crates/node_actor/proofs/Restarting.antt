@@ -2,7 +2,7 @@
 use Rattle.std.proofs.Common.{◌≡◌, inl, inr, ⊎_elim, ◌<◌, ◌≤◌, ◌+◌, ◌-◌, ◌++◌, ◌∙◌, append-nil, ℕ, zero, suc, Bool, true, false, not}
 use Rattle.std.proofs.Common.{Some, None, [], ◌∷◌, refl, sym, ap, subst, arith}
 use Rattle.std.proofs.lemmas.Bool.{and_from, and_parts, lt-ltb}
-use Rattle.std.specs.Prelude.{◌==◌, is_some}
+use Rattle.std.specs.Prelude.{◌==◌, List, Option}
 use Rattle.paxos_packets.specs.Rows.{last_boot, raised}
 use Rattle.paxos_packets.specs.declared.rows.Rows.{Rows}
 use Rattle.paxos_acceptor.specs.Acceptor as accepting
@@ -24,7 +24,7 @@ use Rattle.paxos_planning.specs.Node.{NodeState}
 use Rattle.mail_table.specs.Seats.{Seated}
 use Rattle.actor_parts.specs.Parts.{IsPlan}
 use Rattle.actor_parts.specs.declared.fault.ActorFault.{ActorFault}
-use Rattle.actor_parts.specs.declared.fault.ActorFault.TheVariants.{Keeper, Worn, Memory}
+use Rattle.actor_parts.specs.declared.fault.ActorFault.TheVariants.{Failed, Rounds, Full, Keeper, Disagree, LostHere, Worn, Memory}
 use Rattle.node_actor.specs.Compare.{fit_of}
 use Rattle.node_actor.specs.declared.compare.Fit.TheVariants.{Others}
 use Rattle.node_actor.specs.declared.preparing.Ready.{Ready}
@@ -32,8 +32,8 @@ use Rattle.node_actor.specs.Posts.{Posted, LeftOf, IsLeft, renewed}
 use Rattle.node_actor.specs.Beginning.{IsLater, MayBegin, first_time, from_left, from_meant, seat_before, IsNodeOf, MayKeepFrom, Starts}
 use Rattle.node_actor.specs.Beginning.{Begins, Renews, Leaves, begun}
 use Rattle.node_actor.specs.Preparing.{raises, restarts, comes_back, moved_by_all, ArePossible, as_left, as_meant, Returns, HasOthers}
-use Rattle.node_actor.specs.Preparing.{Stays, Fits, anew, again, IsWorn, worn_first, worn_left, worn_meant, Refuses, unread, others}
-use Rattle.node_actor.specs.Preparing.{unjudged, worn, unbooted, strayed, Readied}
+use Rattle.node_actor.specs.Preparing.{Stays, Fits, IsWorn, worn_first, worn_left, worn_meant, IsUnmade, Refuses, unread, others}
+use Rattle.node_actor.specs.Preparing.{unjudged, worn, unread_first, unmade, unbooted, strayed, Readied}
 use Rattle.mail_table.specs.Views.{opened_with, reopened}
 use Rattle.paxos_node.specs.declared.view.Opened.{Opened}
 use Rattle.std.proofs.lemmas.Bool.{eqb-true}
@@ -41,18 +41,20 @@ use Rattle.std.proofs.Common.{eqb}
 use Rattle.paxos_node.specs.Plans.{plans}
 use Rattle.paxos_node.specs.Adopting.{Planned}
 use Rattle.node_actor.specs.Posts.{advanced}
-use Rattle.node_actor.proofs.Booting.{none_of, loads_of}
+use Rattle.node_actor.proofs.Booting.{loads_of}
+use Rattle.actor_parts.specs.Snapshots.{is_no_log}
+use Rattle.paxos_packets.specs.Snapshot as taken
 use Rattle.node_actor.proofs.Renewing.{rows_behind, rows_of_some}
 
 -- what is there once a boot has begun
 
-module _ {B K : Type 0} (same : B → B → Bool) (holds finds : K → Rows B → Type 0) (is_faithful : K → Type 0) (is_failed : K → Bool)
-    (failures : K → ℕ) (p : Posted B) (old new : K) (ready : Ready B)
-    (r : Readied same holds finds is_faithful is_failed failures p old new ready) where
-  pub refused_late : {Y : Type 0} → Refuses same holds finds is_faithful failures {Y = Y} p old new Memory
+module _ {B S K : Type 0} (same : B → B → Bool) (loaded : List ℕ → Option S) (holds finds : K → Rows B → Type 0) (is_faithful : K → Type 0)
+    (is_failed : K → Bool) (failures : K → ℕ) (p : Posted B) (old new : K) (ready : Ready B)
+    (r : Readied same loaded holds finds is_faithful is_failed failures p old new ready) where
+  pub refused_late : {Y : Type 0} → Refuses same loaded holds finds is_faithful failures {Y = Y} p old new Memory
   refused_late {Y} =
-      unbooted Memory r.mid (λ e. absurd cc) r.fits (record { may = tt; found = r.found })
-      (record { faithful = r.faithful; sound = λ f x held none e. absurd cc })
+      unbooted Memory r.mid r.rows ready.meant (λ e. absurd cc) r.fits r.readable (record { may = tt; found = r.found })
+      (record { faithful = r.faithful; sound = λ f x held e. absurd cc })
 
   abbrev renews_of : (s : Seated B) → s ≡ renewed ready.rows (seat_before ready.meant p.failed p.seat)
       → Renews holds is_faithful p old new s
@@ -240,37 +242,51 @@ module _ {B : Type 0} (same : B → B → Bool) (p : Posted B) (left : IsLeft sa
 
 -- why a restart is refused
 
-module _ {B K : Type 0} (same : B → B → Bool) (holds finds : K → Rows B → Type 0) (is_faithful : K → Type 0) (failures : K
-    → ℕ) (p : Posted B) where
+module _ {B S K : Type 0} (same : B → B → Bool) (loaded : List ℕ → Option S) (holds finds : K → Rows B → Type 0) (is_faithful : K → Type 0)
+    (failures : K → ℕ) (p : Posted B) where
   keeper_is : {Y : Type 0} (f g : KeeperFault) → ◌≡◌ {A = ActorFault Y} (Keeper f) (Keeper g) → f ≡ g
   keeper_is f g e = cc
 
-  -- if what lies below returned what was written, 62 comes of other rows alone, and of rows with a snapshot
-  pub exact_of : {Y : Type 0} (old new : K) (f : ActorFault Y) (r : Rows B) → Refuses same holds finds is_faithful failures p old new f
+  -- no log was made of the snapshot in rows
+  unmade_is : {Y : Type 0} (f : ActorFault Y) (snapshot : Option taken.Snapshot) → IsUnmade loaded snapshot f → f ≡ Keeper store.Damaged
+      → is_no_log loaded snapshot ≡ true
+  unmade_is (Keeper x) snapshot h is = h.1
+  unmade_is Memory snapshot h is = absurd cc
+  unmade_is Failed snapshot h is = absurd h
+  unmade_is Rounds snapshot h is = absurd h
+  unmade_is Full snapshot h is = absurd h
+  unmade_is Disagree snapshot h is = absurd h
+  unmade_is (LostHere says) snapshot h is = absurd h
+  unmade_is Worn snapshot h is = absurd h
+
+  unmade_may : {Y : Type 0} (f : ActorFault Y) (snapshot : Option taken.Snapshot) (m n : ℕ) → IsUnmade loaded snapshot f → MayKeepFrom m n f
+  unmade_may (Keeper x) snapshot m n h = λ e. absurd (let off : store.Damaged ≡ store.Store = sym h.0 ∙ e in cc)
+  unmade_may Memory snapshot m n h = tt
+  unmade_may Failed snapshot m n h = h
+  unmade_may Rounds snapshot m n h = h
+  unmade_may Full snapshot m n h = h
+  unmade_may Disagree snapshot m n h = h
+  unmade_may (LostHere says) snapshot m n h = h
+  unmade_may Worn snapshot m n h = absurd h
+
+  -- if what lies below returned what was written, 62 comes of other rows alone, and of a snapshot of which no log is made
+  pub exact_of : {Y : Type 0} (old new : K) (f : ActorFault Y) (r : Rows B) → Refuses same loaded holds finds is_faithful failures p old new f
       → holds old r → is_faithful new
-      → f ≡ Keeper store.Damaged → HasOthers same p r
+      → f ≡ Keeper store.Damaged → HasOthers same loaded p r
   exact_of old new (Keeper x) r (unread k f some stays counted sound) held true_to is = absurd (sound true_to r held
       (keeper_is x store.Damaged is))
   exact_of old new (Keeper store.Damaged) r (others k x some loads fit) held true_to is =
       inr (k, some, subst (λ y. fit_of same p.failed k y ≡ Others) (loads.right true_to r held) fit)
   exact_of old new Memory r (unjudged k x some loads other failed) held true_to is = absurd cc
   exact_of old new Worn r (worn w) held true_to is = absurd cc
-  exact_of old new f r (unbooted g mid unworn fits starts whole) held true_to is = go fits
-    where
-      at : (b : Bool) → is_some r.snapshot ≡ b → (r.snapshot ≡ None → f ≡ Keeper store.Damaged → ⊥) → HasOthers same p r
-      at true e never = inl e
-      at false e never = absurd (never (none_of r.snapshot e) is)
-
-      by_base : (r.snapshot ≡ None → f ≡ Keeper store.Damaged → ⊥) → HasOthers same p r
-      by_base never = at (is_some r.snapshot) refl never
-
-      go : Fits same holds finds is_faithful failures p old mid → HasOthers same p r
-      go (anew none same_keeper counts) = by_base (whole.sound true_to r (subst (λ k. holds k r) (sym same_keeper) held))
-      go (again x meant found) =
-          let loads = loads_of same holds finds is_faithful failures p old mid x meant found in
-          by_base (subst (λ (y : Rows B). y.snapshot ≡ None → f ≡ Keeper store.Damaged → ⊥) (loads.right (whole.faithful true_to) r held)
-          (whole.sound true_to x loads.held))
-  exact_of old new (Keeper store.Damaged) r (strayed mid fits none starts) held true_to is = absurd (none true_to)
+  exact_of old new (Keeper x) r (unread_first f none counts stays counted sound) held true_to is = absurd (sound true_to r held
+      (keeper_is x store.Damaged is))
+  exact_of old new f r (unmade g x meant fits why) held true_to is =
+      let loads = loads_of same loaded holds finds is_faithful failures p old new x meant fits in
+      inl (subst (λ (y : Rows B). is_no_log loaded y.snapshot ≡ true) (loads.right true_to r held) (unmade_is f x.snapshot why is))
+  exact_of old new f r (unbooted g mid x meant unworn fits readable starts whole) held true_to is =
+      absurd (whole.sound true_to x (loads_of same loaded holds finds is_faithful failures p old mid x meant fits).held is)
+  exact_of old new (Keeper store.Damaged) r (strayed mid x meant fits readable none starts) held true_to is = absurd (none true_to)
 
   may_before : {Y : Type 0} (f : ActorFault Y) (a b c : ℕ) → a ≤ b → MayKeepFrom b c f → MayKeepFrom a c f
   may_before (Keeper f) a b c low may = λ e. let high = may e in omega (arith, low, high)
@@ -278,12 +294,12 @@ module _ {B K : Type 0} (same : B → B → Bool) (holds finds : K → Rows B �
   may_before Worn a b c low may = tt
   may_before _ a b c low may = may
 
-  starts_behind : {Y : Type 0} (old mid new : K) (f : ActorFault Y) → Fits same holds finds is_faithful failures p old mid
+  starts_behind : {Y : Type 0} (old mid new : K) (f : ActorFault Y) (x : Rows B) (meant : Bool)
+      → Fits same holds finds is_faithful failures p old mid x meant
       → Starts holds finds failures mid new f
       → Starts holds finds failures old new f
-  starts_behind old mid new f (anew none is counts) starts = subst (λ k. Starts holds finds failures k new f) is starts
-  starts_behind old mid new f (again x meant found_there) starts =
-      let loads = loads_of same holds finds is_faithful failures p old mid x meant found_there in
+  starts_behind old mid new f x meant fits starts =
+      let loads = loads_of same loaded holds finds is_faithful failures p old mid x meant fits in
       record {
         may = may_before f (failures old) (failures mid) (failures new) loads.stays.counted starts.may;
         found = λ r held y found. ⊎_elim (λ was. inl (loads.stays.found y was)) (λ next. inr next) (starts.found r
@@ -299,7 +315,7 @@ module _ {B K : Type 0} (same : B → B → Bool) (holds finds : K → Rows B �
   worn_found old new r (worn_meant k x some loads fit counts) = stays_found old new r loads.stays
 
   -- what is found then
-  pub starts_of : {Y : Type 0} (old new : K) (f : ActorFault Y) → Refuses same holds finds is_faithful failures p old new f
+  pub starts_of : {Y : Type 0} (old new : K) (f : ActorFault Y) → Refuses same loaded holds finds is_faithful failures p old new f
       → Starts holds finds failures old new f
   starts_of old new (Keeper f) (unread k g some stays counted sound) = record { may = counted; found = λ r held. stays_found old new r stays }
   starts_of old new (Keeper store.Damaged) (others k x some loads fit) = record {
@@ -309,5 +325,13 @@ module _ {B K : Type 0} (same : B → B → Bool) (holds finds : K → Rows B �
   }
   starts_of old new Memory (unjudged k x some loads other failed) = record { may = tt; found = λ r held. stays_found old new r loads.stays }
   starts_of old new Worn (worn w) = record { may = tt; found = λ r held. worn_found old new r w }
-  starts_of old new f (unbooted g mid unworn fits starts whole) = starts_behind old mid new f fits starts
-  starts_of old new (Keeper store.Damaged) (strayed mid fits none starts) = starts_behind old mid new (Keeper store.Damaged) fits starts
+  starts_of old new (Keeper f) (unread_first g none counts stays counted sound) =
+      record { may = counted; found = λ r held. stays_found old new r stays }
+  starts_of old new f (unmade g x meant fits why) =
+      record {
+        may = unmade_may f x.snapshot (failures old) (failures new) why;
+        found = λ r held. stays_found old new r (loads_of same loaded holds finds is_faithful failures p old new x meant fits).stays;
+      }
+  starts_of old new f (unbooted g mid x meant unworn fits readable starts whole) = starts_behind old mid new f x meant fits starts
+  starts_of old new (Keeper store.Damaged) (strayed mid x meant fits readable none starts) =
+      starts_behind old mid new (Keeper store.Damaged) x meant fits starts

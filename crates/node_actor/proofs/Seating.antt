@@ -9,6 +9,7 @@ use Rattle.std.specs.declared.vec.Vec.{Vec}
 use Rattle.std.specs.declared.alloc.Global.{Global}
 use Rattle.paxos_packets.specs.declared.packet.Packet.{Packet}
 use Rattle.paxos_packets.specs.declared.rows.Rows.{Rows}
+use Rattle.replica_machine.specs.Log.{LogState}
 use Rattle.replica_machine.specs.Replay.{Steps}
 use Rattle.actor_outboxes.specs.Outboxes.{most_waiting, waiting, to, IsPeer, WaitBehind}
 use Rattle.paxos_node.specs.Adopting.{adopted}
@@ -113,12 +114,13 @@ module _ {B M K : Type 0} (same : B → B → Bool) where
     over o old new (Err Full) h = absurd h
     over o old new (Err Disagree) h = absurd h
 
-    pub seated_on : (holds : K → Rows B → Type 0) (is_failed : K → Bool) (o : Outcome B) (old mid new : Parted B M K) (s t : Seated B)
+    pub seated_on : (holds : K → Rows B → Type 0) (is_failed : K → Bool) (base : LogState B M) (o : Outcome B) (old mid new : Parted B M K)
+        (s t : Seated B)
         → t ≡ advanced o s
-        → IsSound same holds is_failed old → Ready holds is_failed o old mid → old.failed ≡ None → StaysWho mid new
+        → IsSound same holds is_failed old → Ready holds is_failed base o old mid → old.failed ≡ None → StaysWho mid new
         → (result : Result (Vec Y Global) (ActorFault Y)) → TakesIn steps content o mid new result → IsSeated same (acting old s)
         → IsSeated same (acting new t)
-    seated_on holds is_failed o old mid new s t is sound r none who result h seated =
+    seated_on holds is_failed base o old mid new s t is sound r none who result h seated =
         let did = over o mid new result h in
         seated_moved o old new s t is sound.me sound.members (who_on old mid new r.who who)
         (did.0 ∙ next_same o old mid r.who.me r.who.members r.state) (subst (λ w. WaitBehind o.packets w new.waiting) r.waiting did.1)

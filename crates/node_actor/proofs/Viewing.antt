@@ -2,12 +2,13 @@
 use Rattle.std.proofs.Common.{◌≡◌, ◌⊎◌, inl, inr, ℕ, ◌≤◌, ◌-◌, Bool, not, true}
 use Rattle.std.proofs.Common.{false, cond, eqb, Option, Some, None, Result, Ok, Err, List, [], ◌++◌}
 use Rattle.std.proofs.Common.{length, drop, arith, sym, ap, subst, ◌∙◌, refl}
-use Rattle.std.specs.Prelude.{◌==◌, ◌^◌, nat_lt, filter}
-use Rattle.std.proofs.lemmas.Bool.{ne_eqb, and_parts, and_from, eqb-true, eq-eqb, false≢true}
+use Rattle.std.specs.Prelude.{◌==◌, ◌^◌, ◌||◌, nat_lt, filter, is_some}
+use Rattle.std.proofs.lemmas.Bool.{cond-true, cond-false, ne_eqb, and_parts, and_from, eqb-true, eq-eqb, false≢true}
 use Rattle.std.proofs.lemmas.List.{append-nil}
 use Rattle.std.specs.declared.vec.Vec.{Vec}
 use Rattle.std.specs.declared.alloc.Global.{Global}
 use Rattle.circular_buffer.specs.Buffer.{keep_last}
+use Rattle.paxos_packets.specs.Snapshot as taken
 use Rattle.paxos_packets.specs.declared.entry.Entry.{Entry}
 use Rattle.paxos_packets.specs.declared.packet.Packet.{Packet}
 use Rattle.paxos_packets.specs.declared.rows.Rows.{Rows}
@@ -30,22 +31,36 @@ use Rattle.mail_table.specs.Views.{box_of, through}
 use Rattle.actor_parts.specs.declared.fault.ActorFault.{ActorFault}
 use Rattle.actor_parts.specs.declared.fault.ActorFault.TheVariants.{Failed, Rounds, Full, Keeper, Disagree, LostHere, Worn, Memory}
 use Rattle.actor_parts.specs.Parts.{Parted, IsPlan, IsServing, IsSound}
-use Rattle.actor_parts.specs.Handing.{handed_out, handed_by}
+use Rattle.actor_parts.specs.Handing.{handed_out}
+use Rattle.actor_parts.specs.Snapshots.{is_no_log, base_log}
+use Rattle.cluster_world.specs.MemberSnapshots.{taken_over}
+use Rattle.node_actor.specs.Snapshots.{Logs, takes_no_log, log_before, under_after, handed_by}
+use Rattle.node_actor.proofs.Joining.{Joins, joins_made, reads_made, reads_none}
 use Rattle.actor_parts.specs.Steps.{OnlyKeeper, next_node}
 use Rattle.actor_parts.proofs.Carrying.{Roomed, next_rows}
 use Rattle.node_actor.specs.Actor.{Acting, acting, acting_since, IsSeated}
 use Rattle.node_actor.specs.declared.turning.LastTurn.{LastTurn}
 use Rattle.node_actor.specs.Posts.{advanced}
 use Rattle.node_actor.specs.Steps.{may_advance, fault_without_plan, TakesOver, StopsBefore, StopsBehind, CarriesOut}
+use Rattle.node_actor.specs.Steps.{CarriesOn, makes_none, makes_stop, carries}
 use Rattle.node_actor.specs.Turns.{Reaches}
 use Rattle.node_actor.specs.Views.{View, seen, is_for, posted_to, received_from, StandsFor, moved_by, received_by, Queues}
-use Rattle.node_actor.specs.Calls.{take_event, turn_event, is_own, is_worn, Goes, Stops, IsTaken, IsAgreed, Acts}
+use Rattle.node_actor.specs.Calls.{take_event, turn_event, is_own, is_worn, Goes, Stops, IsTaken, IsAgreed, Acts, Cuts}
+use Rattle.paxos_node.specs.Snapshots.{may_cut}
 use Rattle.node_actor.proofs.Seating.{peer_of, seated_stands}
-use Rattle.node_actor.proofs.Since.{since, acts_since}
-use Rattle.replica_machine.specs.Log.{machine_from}
+use Rattle.node_actor.proofs.Since.{since, acts_since, cuts_since}
+use Rattle.replica_machine.specs.Log.{LogState, machine_from}
 
 keep_short : {A : Type 0} (xs : List A) → length xs ≤ most_waiting → keep_last most_waiting xs ≡ xs
 keep_short xs h = let z : length xs - most_waiting ≡ 0 = omega (arith, h) in ap (λ k. drop k xs) z
+
+or_left : (a b : Bool) → a ≡ true → (a || b) ≡ true
+or_left true b h = refl
+or_left false b h = absurd (false≢true h)
+
+or_right : (a b : Bool) → b ≡ true → (a || b) ≡ true
+or_right true b h = refl
+or_right false b h = h
 
 not_false : (b : Bool) → not b ≡ false → b ≡ true
 not_false true h = refl
@@ -132,8 +147,8 @@ module _ {B M K : Type 0} where
             ∙ ap (keep_last most_waiting) (sym (append-nil (waiting k old.waiting)));
       }
 
-module _ {B S Y M K : Type 0} (same : B → B → Bool) (steps : Steps B S Y) (content : M → S) (holds : K → Rows B → Type 0)
-    (finds : K → Rows B → Type 0) (failures : K → ℕ) (is_failed : K → Bool) where
+module _ {B S Y M K : Type 0} (same : B → B → Bool) (steps : Steps B S Y) (content : M → S) (loaded : List ℕ → Option S)
+    (holds : K → Rows B → Type 0) (finds : K → Rows B → Type 0) (failures : K → ℕ) (is_failed : K → Bool) where
   module _ (e : Event B) (o : Outcome B) (old new : Parted B M K) (v s t : Seated B) (sound : IsSound same holds is_failed old)
       (seated : IsSeated same (acting old s)) (behind : IsSeated same (acting new t)) (reach : Reaches old.spoiled (Some e) v s)
       (mine : plans old.node.me e old.node.state ≡ true) (planned : Planned same old.node.members e old.node.state o) where
@@ -153,40 +168,66 @@ module _ {B S Y M K : Type 0} (same : B → B → Bool) (steps : Steps B S Y) (c
         (λ i. adopted (seated.me i) (seated.members i) o (seated.node i)) ∙ next_is in
         ap seen is ∙ (λ i. moved (node i) (packets i) (reach.seen i))
 
-    goes_on : (says : List Y) → TakesOver steps content holds finds failures o (acting old s) (acting new t) says
-        → Goes same steps content holds finds failures (Some e) (acting old v) (acting new t) v says
-    goes_on says h =
-        record {
-          next = t;
-          stands = seated_stands same new t behind;
-          moved = moved_is h.seat;
-          received = λ k. ap (received_from k) h.seat ∙ reach.received k;
-          queues = λ k peer. record {
-            meanwhile = [];
-            rest = waiting k old.waiting;
-            posted = ap (posted_to k) h.seat ∙ posted_same old.spoiled (Some e) v s reach k ∙ sym (append-nil (posted_to k v));
-            waited = refl;
-            waits = h.waits k (peer_of old sound.me sound.members k peer)
-                ∙ ap (λ ps. keep_last most_waiting (waiting k old.waiting ++ to k ps)) packets;
-          };
-          held = subst (λ x. holds new.keeper x) (ap (λ x. x.rows) (next_is ∙ ap (λ x. x.node) (sym (moved_is h.seat)))) h.held;
-          says = λ first under l. h.says first under l ∙ told first under;
-          follows = h.follows;
-        }
-      where
-        told : (first : S) (under : List (Entry B))
-            → handed_out (machine_from steps first) old.node.me old.node.state.rows.boot (under ++ old.node.state.applied) o.applied
-            ≡ handed_by same old.node.members (machine_from steps first) under (Some e) (seen v).node
-        told first under =
-            ap (λ n. handed_out (machine_from steps first) n old.node.state.rows.boot (under ++ old.node.state.applied) o.applied)
-            (sym (owner_is old.node.me e old.node.state mine))
-            ∙ ap (λ x. handed_out (machine_from steps first) (owner e) x.rows.boot (under ++ x.applied) o.applied) is_node
-            ∙ ap (handed_out (machine_from steps first) (owner e) (seen v).node.rows.boot (under ++ (seen v).node.applied))
-            (applied_is same old.node.me old.node.members e old.node.state (seen v).node o planned is_node)
+    -- the snapshot of the outcome is the event's
+    commits_is : o.change.snapshot ≡ (outcome_of same old.node.members e (seen v).node).change.snapshot
+    commits_is = ap (λ c. c.snapshot) planned.change ∙ ap (λ z. (outcome_of same old.node.members e z).change.snapshot) is_node
+
+    -- the machine goes on from the log after which the event applies its entries
+    module _ (base : LogState B M) (joins : Joins steps content loaded (is_some (packet_in e)) o.change.snapshot old.node.state.applied old.log base)
+        (reads : is_no_log loaded (taken_over (is_some (packet_in e)) o.change.snapshot) ≡ false) where
+      joined : Joins steps content loaded (is_some (packet_in e)) (outcome_of same old.node.members e (seen v).node).change.snapshot
+          (seen v).node.applied old.log base
+      joined =
+          subst (λ es. Joins steps content loaded (is_some (packet_in e)) (outcome_of same old.node.members e (seen v).node).change.snapshot es
+          old.log base) (ap (λ x. x.applied) is_node)
+          (subst (λ c. Joins steps content loaded (is_some (packet_in e)) c old.node.state.applied old.log base) commits_is joins)
+
+      reads_is : takes_no_log same old.node.members loaded (Some e) (seen v).node ≡ false
+      reads_is = ap (λ c. is_no_log loaded (taken_over (is_some (packet_in e)) c)) (sym commits_is) ∙ reads
+
+      goes_on : (says : List Y) → TakesOver steps content holds finds failures base o (acting old s) (acting new t) says
+          → Goes same steps content loaded holds finds failures (Some e) (acting old v) (acting new t) v says
+      goes_on says h =
+          record {
+            next = t;
+            stands = seated_stands same new t behind;
+            moved = moved_is h.seat;
+            received = λ k. ap (received_from k) h.seat ∙ reach.received k;
+            queues = λ k peer. record {
+              meanwhile = [];
+              rest = waiting k old.waiting;
+              posted = ap (posted_to k) h.seat ∙ posted_same old.spoiled (Some e) v s reach k ∙ sym (append-nil (posted_to k v));
+              waited = refl;
+              waits = h.waits k (peer_of old sound.me sound.members k peer)
+                  ∙ ap (λ ps. keep_last most_waiting (waiting k old.waiting ++ to k ps)) packets;
+            };
+            held = subst (λ x. holds new.keeper x) (ap (λ x. x.rows) (next_is ∙ ap (λ x. x.node) (sym (moved_is h.seat)))) h.held;
+            loads = reads_is;
+            says = λ first under logs l takes.
+                h.says first (under_after same old.node.members logs under (Some e) (seen v).node) (joined.goes first under logs l takes)
+                ∙ told first under logs;
+            follows = λ first under logs l takes.
+                h.follows first (under_after same old.node.members logs under (Some e) (seen v).node) (joined.goes first under logs l takes);
+          }
+        where
+          told : (first : S) (under : List (Entry B)) (logs : Logs B)
+              → handed_out (machine_from steps first) old.node.me old.node.state.rows.boot
+              (under_after same old.node.members logs under (Some e) (seen v).node ++ base.applied) o.applied
+              ≡ handed_by same old.node.members (machine_from steps first) logs under (Some e) (seen v).node
+          told first under logs =
+              ap (λ log. handed_out (machine_from steps first) old.node.me old.node.state.rows.boot log o.applied) (joined.at under logs)
+              ∙ (ap (λ n. handed_out (machine_from steps first) n old.node.state.rows.boot
+              (log_before same old.node.members logs under (Some e) (seen v).node) o.applied)
+              (sym (owner_is old.node.me e old.node.state mine))
+              ∙ (ap (λ x. handed_out (machine_from steps first) (owner e) x.rows.boot
+              (log_before same old.node.members logs under (Some e) (seen v).node) o.applied) is_node
+              ∙ ap (handed_out (machine_from steps first) (owner e) (seen v).node.rows.boot
+              (log_before same old.node.members logs under (Some e) (seen v).node))
+              (applied_is same old.node.me old.node.members e old.node.state (seen v).node o planned is_node)))
 
     -- what is refused, and what is not
     module _ (no_round : is_round_refused e old.node.state ≡ false) (no_full : is_full_refused same e old.node.state ≡ false) where
-      is_taken : IsTaken same steps content holds finds failures (Some e) (acting old v) v
+      is_taken : IsTaken same steps content loaded holds finds failures (Some e) (acting old v) v
       is_taken = (ap (is_round_refused e) (sym is_node) ∙ no_round, ap (is_full_refused same e) (sym is_node) ∙ no_full)
 
       agrees : (outcome_of same old.node.members e (seen v).node).disagrees ≡ false
@@ -195,7 +236,7 @@ module _ {B S Y M K : Type 0} (same : B → B → Bool) (steps : Steps B S Y) (c
       worn_by : (b : Bool) → may_advance s ≡ b → is_worn (Some e) v ≡ not b
       worn_by b may = ap (λ n. not (nat_lt n (2 ^ 62))) (sym reach.events) ∙ ap not may
 
-      is_agreed : may_advance s ≡ true → IsAgreed same steps content holds finds failures (Some e) (acting old v) v
+      is_agreed : may_advance s ≡ true → IsAgreed same steps content loaded holds finds failures (Some e) (acting old v) v
       is_agreed may = (is_taken, agrees, worn_by true may)
 
       abbrev up_then : Bool
@@ -204,17 +245,18 @@ module _ {B S Y M K : Type 0} (same : B → B → Bool) (steps : Steps B S Y) (c
       downs : o.is_down ≡ not up_then
       downs = down_is same old.node.me old.node.members e old.node.state (seen v).node o planned is_node
 
-      stops : StopsBefore steps content holds finds failures (acting old s) (acting new t) ⊎ StopsBehind steps content holds finds failures o
+      stops : (base : LogState B M)
+          → StopsBefore steps content holds finds failures (acting old s) (acting new t) ⊎ StopsBehind steps content holds finds failures base o
           (acting old s) (acting new t)
-          → Stops same steps content holds finds failures (Some e) (acting old v) (acting new t) v
-      stops (inl b) =
+          → Stops same steps content loaded holds finds failures (Some e) (acting old v) (acting new t) v
+      stops base (inl b) =
           record {
             next = t;
             stands = seated_stands same new t behind;
             moved = inl (ap seen b.seat ∙ reach.seen);
             held = subst (λ x. holds new.keeper x.rows) (is_node ∙ ap (λ x. x.node) (sym (ap seen b.seat ∙ reach.seen))) b.held;
           }
-      stops (inr b) =
+      stops base (inr b) =
           record {
             next = t;
             stands = seated_stands same new t behind;
@@ -222,13 +264,16 @@ module _ {B S Y M K : Type 0} (same : B → B → Bool) (steps : Steps B S Y) (c
             held = subst (λ x. holds new.keeper x) (ap (λ x. x.rows) (next_is ∙ ap (λ x. x.node) (sym (moved_is b.seat)))) b.held;
           }
 
-      pub acts_of : old.spoiled ≡ false → ((k : ℕ) → IsPeer old.node.me old.node.members k → length (waiting k old.waiting) ≤ most_waiting)
-          → (result : Result (Vec Y Global) (ActorFault Y)) → CarriesOut steps content holds finds failures o (acting old s) (acting new t)
+      pub acts_of : (base : LogState B M)
+          → Joins steps content loaded (is_some (packet_in e)) o.change.snapshot old.node.state.applied old.log base
+          → is_no_log loaded (taken_over (is_some (packet_in e)) o.change.snapshot) ≡ false
+          → old.spoiled ≡ false → ((k : ℕ) → IsPeer old.node.me old.node.members k → length (waiting k old.waiting) ≤ most_waiting)
+          → (result : Result (Vec Y Global) (ActorFault Y)) → CarriesOut steps content holds finds failures base o (acting old s) (acting new t)
           result
-          → Acts same steps content holds finds failures (Some e) (acting old v) (acting new t) v result
-      acts_of fresh short (Ok says) h = (fresh, h.2, is_agreed h.0, not_false up_then (sym downs ∙ h.1), goes_on says.items h.3)
-      acts_of fresh short (Err (LostHere says)) h = (fresh, h.2, is_agreed h.0, not_true up_then (sym downs ∙ h.1), goes_on says.items h.3)
-      acts_of fresh short (Err (Keeper fault)) h = (
+          → Acts same steps content loaded holds finds failures (Some e) (acting old v) (acting new t) v result
+      acts_of base joins reads fresh short (Ok says) h = (fresh, h.2, is_agreed h.0, not_false up_then (sym downs ∙ h.1), goes_on base joins reads says.items h.3)
+      acts_of base joins reads fresh short (Err (LostHere says)) h = (fresh, h.2, is_agreed h.0, not_true up_then (sym downs ∙ h.1), goes_on base joins reads says.items h.3)
+      acts_of base joins reads fresh short (Err (Keeper fault)) h = (
         fresh,
         h.1,
         is_agreed h.0,
@@ -236,8 +281,10 @@ module _ {B S Y M K : Type 0} (same : B → B → Bool) (steps : Steps B S Y) (c
           next = t;
           stands = seated_stands same new t behind;
           moved = ap seen h.2.seat ∙ reach.seen;
+          log = h.2.log;
           queues = λ k peer. queues_still old new v t h.2.waits k (ap (posted_to k) h.2.seat
               ∙ posted_same old.spoiled (Some e) v s reach k) (short k peer);
+          loads = reads_is base joins reads;
           found = λ x it. found_by x (h.2.falls.found x it);
           cause = h.2.falls.cause;
         },
@@ -247,7 +294,7 @@ module _ {B S Y M K : Type 0} (same : B → B → Bool) (steps : Steps B S Y) (c
               → (x ≡ (seen v).node.rows) ⊎ (x ≡ (moved_by same old.node.members (Some e) (seen v)).node.rows)
           found_by x (inl is) = inl (is ∙ ap (λ y. y.rows) is_node)
           found_by x (inr is) = inr (is ∙ sym (next_rows old.node.me old.node.members o old.node.state) ∙ ap (λ y. y.rows) next_is)
-      acts_of fresh short (Err Worn) h = (
+      acts_of base joins reads fresh short (Err Worn) h = (
         fresh,
         h.1,
         is_taken,
@@ -260,11 +307,50 @@ module _ {B S Y M K : Type 0} (same : B → B → Bool) (steps : Steps B S Y) (c
           held = subst (λ x. holds new.keeper x.rows) (is_node ∙ ap (λ x. x.node) (sym (ap seen h.2.seat ∙ reach.seen))) h.2.held;
         },
       )
-      acts_of fresh short (Err Memory) h = (fresh, h.1, is_agreed h.0, stops h.2)
-      acts_of fresh short (Err Failed) h = absurd h
-      acts_of fresh short (Err Rounds) h = absurd h
-      acts_of fresh short (Err Full) h = absurd h
-      acts_of fresh short (Err Disagree) h = absurd h
+      acts_of base joins reads fresh short (Err Memory) h = (fresh, h.1, is_agreed h.0, stops base h.2)
+      acts_of base joins reads fresh short (Err Failed) h = absurd h
+      acts_of base joins reads fresh short (Err Rounds) h = absurd h
+      acts_of base joins reads fresh short (Err Full) h = absurd h
+      acts_of base joins reads fresh short (Err Disagree) h = absurd h
+
+      stopped_here : StopsBefore steps content holds finds failures (acting old s) (acting new t)
+          → Stops same steps content loaded holds finds failures None (acting old v) (acting new t) v
+      stopped_here h =
+          record {
+            next = t;
+            stands = seated_stands same new t behind;
+            moved = inl (ap seen h.seat ∙ reach.seen);
+            held = subst (λ x. holds new.keeper x.rows) (is_node ∙ ap (λ x. x.node) (sym (ap seen h.seat ∙ reach.seen))) h.held;
+          }
+
+      -- the same of an event that is no cut
+      pub acts_on : IsServing holds is_failed old → ((c : taken.Snapshot) → o.change.snapshot ≡ Some c → is_some (packet_in e) ≡ true)
+          → old.spoiled ≡ false → ((k : ℕ) → IsPeer old.node.me old.node.members k → length (waiting k old.waiting) ≤ most_waiting)
+          → (result : Result (Vec Y Global) (ActorFault Y))
+          → CarriesOn steps content holds finds failures loaded o (acting old s) (acting new t) result
+          → Acts same steps content loaded holds finds failures (Some e) (acting old v) (acting new t) v result
+      acts_on serving from fresh short (Err Disagree) (makes_none none spoiled stop) = (
+        fresh,
+        spoiled,
+        is_taken,
+        or_right (outcome_of same old.node.members e (seen v).node).disagrees _
+            (ap (λ c. is_no_log loaded (taken_over (is_some (packet_in e)) c)) (sym commits_is)
+            ∙ reads_none loaded (is_some (packet_in e)) o.change.snapshot from none),
+        stopped_here stop,
+      )
+      acts_on serving from fresh short (Err f) (makes_stop fault is spoiled stop) =
+          subst (λ x. Acts same steps content loaded holds finds failures (Some e) (acting old v) (acting new t) v (Err x)) (sym is)
+          (by_word (may_advance s) refl)
+        where
+          by_word : (b : Bool) → may_advance s ≡ b
+              → Acts same steps content loaded holds finds failures (Some e) (acting old v) (acting new t) v
+              (Err (cond {A = ActorFault Y} b Memory Worn))
+          by_word true may = (fresh, spoiled, is_agreed may, stops old.log (inl stop))
+          by_word false may = (fresh, spoiled, is_taken, agrees, worn_by false may, stopped_here stop)
+      acts_on serving from fresh short r (carries made result is h) =
+          acts_of (base_log made o.change.snapshot old.log)
+          (joins_made steps content loaded (is_some (packet_in e)) o.change.snapshot old.node.state.applied old.log made is from serving.followed)
+          (reads_made steps content loaded (is_some (packet_in e)) o.change.snapshot made is) fresh short result h
 
   -- refusals
 
@@ -274,7 +360,7 @@ module _ {B S Y M K : Type 0} (same : B → B → Bool) (steps : Steps B S Y) (c
       stays_node = sym seated.node ∙ ap (λ x. x.node) reach.seen
 
       stops_here : IsServing holds is_failed p → (f : Option (Event B)) → IsSeated same (acting (record p { spoiled = true }) s)
-          → Stops same steps content holds finds failures f (acting p v) (acting (record p { spoiled = true }) s) v
+          → Stops same steps content loaded holds finds failures f (acting p v) (acting (record p { spoiled = true }) s) v
       stops_here serving f behind =
           record {
             next = s;
@@ -284,7 +370,7 @@ module _ {B S Y M K : Type 0} (same : B → B → Bool) (steps : Steps B S Y) (c
           }
 
       taken_here : (is_round_refused e p.node.state ≡ false) × (is_full_refused same e p.node.state ≡ false)
-          → IsTaken same steps content holds finds failures (Some e) (acting p v) v
+          → IsTaken same steps content loaded holds finds failures (Some e) (acting p v) v
       taken_here h = (ap (is_round_refused e) (sym stays_node) ∙ h.0, ap (is_full_refused same e) (sym stays_node) ∙ h.1)
 
       agrees_here : (b : Bool) → (outcome_of same p.node.members e p.node.state).disagrees ≡ b
@@ -297,24 +383,24 @@ module _ {B S Y M K : Type 0} (same : B → B → Bool) (steps : Steps B S Y) (c
       pub disagree_acts : p.spoiled ≡ false → IsServing holds is_failed p → IsSeated same (acting (record p { spoiled = true }) s)
           → (is_round_refused e p.node.state ≡ false) × (is_full_refused same e p.node.state ≡ false)
           × ((outcome_of same p.node.members e p.node.state).disagrees ≡ true)
-          → Acts same steps content holds finds failures (Some e) (acting p v) (acting (record p { spoiled = true }) s) v (Err Disagree)
+          → Acts same steps content loaded holds finds failures (Some e) (acting p v) (acting (record p { spoiled = true }) s) v (Err Disagree)
       disagree_acts fresh serving behind h = (
         fresh,
         refl,
         taken_here (h.0, h.1),
-        agrees_here true h.2,
+        or_left _ (takes_no_log same p.node.members loaded (Some e) (seen v).node) (agrees_here true h.2),
         stops_here serving None behind,
       )
 
       pub memory_acts : p.spoiled ≡ false → IsServing holds is_failed p → IsSeated same (acting (record p { spoiled = true }) s)
           → (is_round_refused e p.node.state ≡ false) × (is_full_refused same e p.node.state ≡ false)
           → (outcome_of same p.node.members e p.node.state).disagrees ≡ false
-          → Acts same steps content holds finds failures (Some e) (acting p v) (acting (record p { spoiled = true }) s) v
+          → Acts same steps content loaded holds finds failures (Some e) (acting p v) (acting (record p { spoiled = true }) s) v
           (Err (fault_without_plan s))
       memory_acts fresh serving behind h agrees = by_word (may_advance s) refl
         where
           by_word : (b : Bool) → may_advance s ≡ b
-              → Acts same steps content holds finds failures (Some e) (acting p v) (acting (record p { spoiled = true }) s) v
+              → Acts same steps content loaded holds finds failures (Some e) (acting p v) (acting (record p { spoiled = true }) s) v
               (Err (cond {A = ActorFault Y} b Memory Worn))
           by_word true may = (fresh, refl, (taken_here h, agrees_here false agrees, worn_here true may), stops_here serving (Some e) behind)
           by_word false may = (
@@ -335,23 +421,23 @@ module _ {B S Y M K : Type 0} (same : B → B → Bool) (steps : Steps B S Y) (c
       full_alone _ h = refl
 
       pub rounds_act : p.spoiled ≡ false → is_round_refused e p.node.state ≡ true
-          → Acts same steps content holds finds failures (Some e) (acting p v) (acting p s) v (Err Rounds)
+          → Acts same steps content loaded holds finds failures (Some e) (acting p v) (acting p s) v (Err Rounds)
       rounds_act fresh h = (fresh, ap (is_round_refused e) (sym stays_node) ∙ h, ap (acting p) (reach.alone e refl (round_alone e h)))
 
       pub full_act : p.spoiled ≡ false → is_full_refused same e p.node.state ≡ true
-          → Acts same steps content holds finds failures (Some e) (acting p v) (acting p s) v (Err Full)
+          → Acts same steps content loaded holds finds failures (Some e) (acting p v) (acting p s) v (Err Full)
       full_act fresh h = (fresh, ap (is_full_refused same e) (sym stays_node) ∙ h, ap (acting p) (reach.alone e refl (full_alone e h)))
 
   -- a fault has ended the actor before
   pub failed_acts : (e : Option (Event B)) (p : Parted B M K) (v s : Seated B) → p.spoiled ≡ true → Reaches p.spoiled e v s
-      → Acts same steps content holds finds failures e (acting p v) (acting p s) v (Err Failed)
+      → Acts same steps content loaded holds finds failures e (acting p v) (acting p s) v (Err Failed)
   failed_acts e p v s spoiled reach = (spoiled, ap (acting p) (reach.ended spoiled))
 
   -- no event
   pub pass_acts : (p : Parted B M K) (v s : Seated B) (says : Vec Y Global) → says.items ≡ [] → p.spoiled ≡ false
       → IsServing holds is_failed p
       → ((k : ℕ) → IsPeer p.node.me p.node.members k → length (waiting k p.waiting) ≤ most_waiting) → IsSeated same (acting p s)
-      → Reaches p.spoiled None v s → Acts same steps content holds finds failures None (acting p v) (acting p s) v (Ok says)
+      → Reaches p.spoiled None v s → Acts same steps content loaded holds finds failures None (acting p v) (acting p s) v (Ok says)
   pass_acts p v s says silent fresh serving short seated reach = (
     fresh,
     fresh,
@@ -364,10 +450,33 @@ module _ {B S Y M K : Type 0} (same : B → B → Bool) (steps : Steps B S Y) (c
       received = reach.received;
       queues = λ k peer. queues_still p p v s refl k (posted_same p.spoiled None v s reach k) (short k peer);
       held = subst (λ x. holds p.keeper x.rows) (sym seated.node) serving.held;
-      says = λ first under l. silent;
-      follows = λ first under l. l;
+      loads = refl;
+      says = λ first under logs l takes. silent;
+      follows = λ first under logs l takes. l;
     },
   )
+
+-- a cut
+
+module _ {B S Y M K : Type 0} (same : B → B → Bool) (steps : Steps B S Y) (content : M → S) (loaded : List ℕ → Option S)
+    (holds : K → Rows B → Type 0) (finds : K → Rows B → Type 0) (failures : K → ℕ) (snapshot : Option taken.Snapshot) where
+  -- what is made of the event, if it is possible at the view's node
+  pub cuts_acts : (old new : Acting B M K) (v : View B) (result : Result (Vec Y Global) (ActorFault Y))
+      → may_cut snapshot (seen v).node ≡ true
+      → Acts same steps content loaded holds finds failures (Some (Cut old.node.me snapshot)) old new v result
+      → Cuts same steps content loaded holds finds failures snapshot old new v result
+  cuts_acts old new v (Ok says) may h =
+      subst (λ e. Acts same steps content loaded holds finds failures e old new v (Ok says))
+      (sym (cond-true (may_cut snapshot (seen v).node) (Some (Cut old.node.me snapshot)) None may)) h
+  cuts_acts old new v (Err fault) may h = h
+
+  -- and if it is not
+  pub cuts_pass : (old new : Acting B M K) (v : View B) (says : Vec Y Global) → may_cut snapshot (seen v).node ≡ false
+      → Acts same steps content loaded holds finds failures None old new v (Ok says)
+      → Cuts same steps content loaded holds finds failures snapshot old new v (Ok says)
+  cuts_pass old new v says may h =
+      subst (λ e. Acts same steps content loaded holds finds failures e old new v (Ok says))
+      (sym (cond-false (may_cut snapshot (seen v).node) (Some (Cut old.node.me snapshot)) None may)) h
 
 -- events that a call may make
 
@@ -444,46 +553,62 @@ reaches_self ended e s none =
       alone = λ x is none. refl;
     }
 
-module _ {B S Y M K : Type 0} (same : B → B → Bool) (steps : Steps B S Y) (content : M → S) (holds : K → Rows B → Type 0)
-    (finds : K → Rows B → Type 0) (failures : K → ℕ) where
+module _ {B S Y M K : Type 0} (same : B → B → Bool) (steps : Steps B S Y) (content : M → S) (loaded : List ℕ → Option S)
+    (holds : K → Rows B → Type 0) (finds : K → Rows B → Type 0) (failures : K → ℕ) where
   -- an event that is stated in two ways
   pub acts_by : (e f : Option (Event B)) (p : Parted B M K) (s : Seated B) (new : Acting B M K)
       (result : Result (Vec Y Global) (ActorFault Y))
-      → e ≡ f → ((v : View B) → Reaches p.spoiled f v s → Acts same steps content holds finds failures f (acting p v) new v result)
-      → (v : View B) → Reaches p.spoiled e v s → Acts same steps content holds finds failures e (acting p v) new v result
+      → e ≡ f → ((v : View B) → Reaches p.spoiled f v s → Acts same steps content loaded holds finds failures f (acting p v) new v result)
+      → (v : View B) → Reaches p.spoiled e v s → Acts same steps content loaded holds finds failures e (acting p v) new v result
   acts_by e f p s new result is h v reach =
-      subst (λ x. Acts same steps content holds finds failures x (acting p v) new v result) (sym is)
+      subst (λ x. Acts same steps content loaded holds finds failures x (acting p v) new v result) (sym is)
       (h v (subst (λ x. Reaches p.spoiled x v s) is reach))
 
   -- the event of a call, stated for the value that the actor shows
   pub acts_seen : (E : ℕ → ℕ → Option (Event B)) (e : Option (Event B)) (l : LastTurn) (p : Parted B M K) (s : Seated B)
       (now new : Acting B M K) (result : Result (Vec Y Global) (ActorFault Y)) → E p.node.me p.node.members ≡ e → received_by e ≡ []
       → acting_since l p s ≡ now
-      → ((v : View B) → Reaches p.spoiled e v s → Acts same steps content holds finds failures e (acting p v) new v result)
+      → ((v : View B) → Reaches p.spoiled e v s → Acts same steps content loaded holds finds failures e (acting p v) new v result)
       → (v : View B) → StandsFor now v
-      → Acts same steps content holds finds failures (E now.node.me now.node.members) now (since l new) v result
+      → Acts same steps content loaded holds finds failures (E now.node.me now.node.members) now (since l new) v result
   acts_seen E e l p s now new result is none same_actor h =
-      subst (λ (x : Acting B M K). (v : View B) → StandsFor x v → Acts same steps content holds finds failures (E x.node.me x.node.members)
+      subst (λ (x : Acting B M K). (v : View B) → StandsFor x v → Acts same steps content loaded holds finds failures (E x.node.me x.node.members)
       x (since l new) v result)
-      same_actor (λ v stands. subst (λ x. Acts same steps content holds finds failures (E p.node.me p.node.members) (acting_since l p s)
+      same_actor (λ v stands. subst (λ x. Acts same steps content loaded holds finds failures (E p.node.me p.node.members) (acting_since l p s)
       (since l new) x result) stands.seat
-      (subst (λ f. Acts same steps content holds finds failures f (acting_since l p s) (since l new) s result) (sym is)
-      (acts_since same steps content holds finds failures l e (acting p s) new s result (h s (reaches_self p.spoiled e s none)))))
+      (subst (λ f. Acts same steps content loaded holds finds failures f (acting_since l p s) (since l new) s result) (sym is)
+      (acts_since same steps content loaded holds finds failures l e (acting p s) new s result (h s (reaches_self p.spoiled e s none)))))
 
   -- the same if nothing happens
   pub acts_passed : (E : ℕ → ℕ → Option (Event B)) (l : LastTurn) (p : Parted B M K) (s : Seated B) (now : Acting B M K)
       (result : Result (Vec Y Global) (ActorFault Y))
       → E p.node.me p.node.members ≡ None → acting_since l p s ≡ now
-      → ((v : View B) → Reaches p.spoiled None v s → Acts same steps content holds finds failures None (acting p v) (acting p s) v result)
-      → (v : View B) → StandsFor now v → Acts same steps content holds finds failures (E now.node.me now.node.members) now now v result
+      → ((v : View B) → Reaches p.spoiled None v s → Acts same steps content loaded holds finds failures None (acting p v) (acting p s) v result)
+      → (v : View B) → StandsFor now v → Acts same steps content loaded holds finds failures (E now.node.me now.node.members) now now v result
   acts_passed E l p s now result is same_actor h =
-      subst (λ (x : Acting B M K). (v : View B) → StandsFor x v → Acts same steps content holds finds failures (E x.node.me x.node.members)
+      subst (λ (x : Acting B M K). (v : View B) → StandsFor x v → Acts same steps content loaded holds finds failures (E x.node.me x.node.members)
       x x v result)
-      same_actor (λ v stands. subst (λ x. Acts same steps content holds finds failures (E p.node.me p.node.members) (acting_since l p s)
+      same_actor (λ v stands. subst (λ x. Acts same steps content loaded holds finds failures (E p.node.me p.node.members) (acting_since l p s)
       (acting_since l p s) x result) stands.seat
-      (subst (λ f. Acts same steps content holds finds failures f (acting_since l p s) (acting_since l p s) s result) (sym is)
-      (acts_since same steps content holds finds failures l None (acting p s) (acting p s) s result
+      (subst (λ f. Acts same steps content loaded holds finds failures f (acting_since l p s) (acting_since l p s) s result) (sym is)
+      (acts_since same steps content loaded holds finds failures l None (acting p s) (acting p s) s result
       (h s (reaches_self p.spoiled None s refl)))))
+
+module _ {B S Y M K : Type 0} (same : B → B → Bool) (steps : Steps B S Y) (content : M → S) (loaded : List ℕ → Option S)
+    (holds : K → Rows B → Type 0) (finds : K → Rows B → Type 0) (failures : K → ℕ) where
+  -- a cut, stated for the value that the actor shows
+  pub cuts_seen : (E : LogState B M → Option taken.Snapshot) (l : LastTurn) (p : Parted B M K) (s : Seated B) (now new : Acting B M K)
+      (result : Result (Vec Y Global) (ActorFault Y)) → acting_since l p s ≡ now
+      → ((v : View B) → Reaches p.spoiled (Some (Cut p.node.me (E p.log))) v s
+      → Cuts same steps content loaded holds finds failures (E p.log) (acting p v) new v result)
+      → (v : View B) → StandsFor now v → Cuts same steps content loaded holds finds failures (E now.log) now (since l new) v result
+  cuts_seen E l p s now new result same_actor h =
+      subst (λ (x : Acting B M K). (v : View B) → StandsFor x v
+      → Cuts same steps content loaded holds finds failures (E x.log) x (since l new) v result) same_actor
+      (λ v stands. subst (λ x. Cuts same steps content loaded holds finds failures (E p.log) (acting_since l p s) (since l new) x result)
+      stands.seat
+      (cuts_since same steps content loaded holds finds failures l (E p.log) (acting p s) new s result
+      (h s (reaches_self p.spoiled (Some (Cut p.node.me (E p.log))) s refl))))
 
 pub take_some : {B : Type 0} (me n number : ℕ) (body : B) → (number ≡ 0 → ⊥) → n ≡ me
     → take_event me number body ≡ Some (Take n number body)

@@ -48,10 +48,9 @@ pub record IsEmpty {B : Type 0} (number count : ℕ) (w : Waiting B) : Type 0 wh
   pub waits : (k : ℕ) → waiting k w ≡ []
 
 module _ {B K : Type 0} (holds : K → Rows B → Type 0) (is_faithful : K → Type 0) where
-  -- a boot has begun: the rows of the store with one boot more, which have no snapshot
+  -- a boot has begun: the rows of the store with one boot more
   pub record Boots (old new : K) (rows : Rows B) : Type 0 where
     pub held : holds new rows
-    pub plain : rows.snapshot ≡ None
     pub booted : is_faithful new → (r : Rows B) → holds old r → rows ≡ raised r
     pub within : rows.boot ≤ last_boot
 
@@ -84,11 +83,10 @@ module _ {B K : Type 0} (holds : K → Rows B → Type 0) (is_faithful : K → T
     }
         → Leaves p old new left Memory
 
-  -- damage is not reported if what lies below returned what was written, as it did before, too, and the rows have no snapshot: an actor cannot
-  -- load one yet
+  -- damage is not reported if what lies below returned what was written, as it did before, too
   pub record NoDamage {Y : Type 0} (old new : K) (fault : ActorFault Y) : Type 0 where
     pub faithful : is_faithful new → is_faithful old
-    pub sound : is_faithful new → (r : Rows B) → holds old r → r.snapshot ≡ None → fault ≡ Keeper store.Damaged → ⊥
+    pub sound : is_faithful new → (r : Rows B) → holds old r → fault ≡ Keeper store.Damaged → ⊥
 
 -- what kept a boot from its beginning: memory that ran out, a worn word, or the store, which says that it failed only if it did
 abbrev pub MayKeepFrom : {Y : Type 0} → ℕ → ℕ → ActorFault Y → Type 0

@@ -1,9 +1,10 @@
 -- What the calls of an actor promise, stated for each view that it stands for (docs/CONSENSUS.md, "A node with its store").
 use Rattle.std.specs.Prelude.{◌≡◌, ◌⊎◌, ℕ, ◌<◌, Bool, true, false, ◌==◌, Option, Some, None, Result, Ok, Err, IfOk, IfErr, is_err, List, []}
-use Rattle.std.specs.Prelude.{◌++◌, filter, not, ◌&&◌, nat_lt, ◌^◌}
+use Rattle.std.specs.Prelude.{◌++◌, filter, not, ◌&&◌, ◌||◌, nat_lt, ◌^◌}
 use Rattle.std.specs.Prelude.{if◌then◌else◌}
 use Rattle.std.specs.declared.vec.Vec.{Vec}
 use Rattle.std.specs.declared.alloc.Global.{Global}
+use Rattle.paxos_packets.specs.Snapshot as taken
 use Rattle.paxos_packets.specs.declared.entry.Entry.{Entry}
 use Rattle.paxos_packets.specs.declared.packet.Packet.{Packet}
 use Rattle.paxos_packets.specs.declared.rows.Rows.{Rows}
@@ -19,11 +20,11 @@ use Rattle.paxos_planning.specs.Node.{NodeState}
 use Rattle.actor_parts.specs.declared.fault.ActorFault.{ActorFault}
 use Rattle.actor_parts.specs.declared.fault.ActorFault.TheVariants.{Failed, Rounds, Full, Keeper, Disagree, LostHere, Worn, Memory}
 use Rattle.node_actor.specs.Actor.{Acting}
-use Rattle.actor_parts.specs.Handing.{handed_by}
-use Rattle.node_actor.specs.Views.{View, seen, is_snapshot, is_for, received_from, StandsFor, moved_by, sent_by, received_by, Queues}
+use Rattle.node_actor.specs.Snapshots.{Logs, takes_no_log, TakesLog, under_after, handed_by, cut_to}
+use Rattle.node_actor.specs.Views.{View, seen, is_for, received_from, StandsFor, moved_by, sent_by, received_by, Queues}
 
--- the event that a call makes at a node, if any: no act of the transport 0 is taken, and no packet treated that is for another node, from no
--- other member, or a snapshot
+-- the event that a call makes at a node, if any: no act of the transport 0 is taken, and no packet treated that is for another node, or from no
+-- other member
 
 abbrev pub take_event : {B : Type 0} → ℕ → ℕ → B → Option (Event B)
 take_event me number body = if number == 0 then None else Some (Take me number body)
@@ -43,11 +44,10 @@ is_own me (Cut n snapshot) = false
 is_own me (Crash n) = false
 is_own me (Restart n) = false
 
--- an event by which a node may commit a snapshot
-abbrev pub brings_snapshot : {B : Type 0} → Event B → Bool
-brings_snapshot (Deliver p) = is_snapshot p.kind
-brings_snapshot (Cut n snapshot) = true
-brings_snapshot _ = false
+-- a cut, for which an actor has a call of its own
+abbrev pub is_cut : {B : Type 0} → Event B → Bool
+is_cut (Cut n snapshot) = true
+is_cut _ = false
 
 -- whether the event is refused
 
@@ -75,9 +75,10 @@ pub record Rests {B Y M K : Type 0} (old new : Acting B M K) (result : Result (V
   pub failed : IfErr result (λ fault. fault ≡ Failed)
   pub spoiled : old.spoiled ≡ is_err result
 
-module _ {B S Y M K : Type 0} (same : B → B → Bool) (steps : Steps B S Y) (content : M → S) (holds : K → Rows B → Type 0)
-    (finds : K → Rows B → Type 0) (failures : K → ℕ) where
-  -- the view goes on by the event, its node's rows are held, its packets wait, and the sayings are what the event hands out
+module _ {B S Y M K : Type 0} (same : B → B → Bool) (steps : Steps B S Y) (content : M → S) (loaded : List ℕ → Option S)
+    (holds : K → Rows B → Type 0) (finds : K → Rows B → Type 0) (failures : K → ℕ) where
+  -- the view goes on by the event, its node's rows are held, its packets wait, a log is made of the snapshot that it takes over, if it takes one,
+  -- and the sayings are what the event hands out, of whichever log that snapshot is
   pub record Goes (e : Option (Event B)) (old new : Acting B M K) (v : View B) (said : List Y) : Type 0 where
     pub next : View B
     pub stands : StandsFor new next
@@ -85,9 +86,13 @@ module _ {B S Y M K : Type 0} (same : B → B → Bool) (steps : Steps B S Y) (c
     pub received : (k : ℕ) → received_from k next ≡ received_from k v ++ filter (λ p. p.sender == k) (received_by e)
     pub queues : (k : ℕ) → IsPeer old.node.me old.node.members k → Queues k (sent_by same old.node.members e (seen v).node) old new v next
     pub held : holds new.keeper (seen next).node.rows
-    pub says : (first : S) (under : List (Entry B)) → IsLogOf steps content first under old.log
-        → said ≡ handed_by same old.node.members (machine_from steps first) under e (seen v).node
-    pub follows : (first : S) (under : List (Entry B)) → IsLogOf steps content first under old.log → IsLogOf steps content first under new.log
+    pub loads : takes_no_log same old.node.members loaded e (seen v).node ≡ false
+    pub says : (first : S) (under : List (Entry B)) (logs : Logs B) → IsLogOf steps content first under old.log
+        → TakesLog same old.node.members loaded (machine_from steps first) logs e (seen v).node
+        → said ≡ handed_by same old.node.members (machine_from steps first) logs under e (seen v).node
+    pub follows : (first : S) (under : List (Entry B)) (logs : Logs B) → IsLogOf steps content first under old.log
+        → TakesLog same old.node.members loaded (machine_from steps first) logs e (seen v).node
+        → IsLogOf steps content first (under_after same old.node.members logs under e (seen v).node) new.log
 
   -- the view and what is held went on together, or neither did
   pub record Stops (e : Option (Event B)) (old new : Acting B M K) (v : View B) : Type 0 where
@@ -96,13 +101,15 @@ module _ {B S Y M K : Type 0} (same : B → B → Bool) (steps : Steps B S Y) (c
     pub moved : (seen next ≡ seen v) ⊎ (seen next ≡ moved_by same old.node.members e (seen v))
     pub held : holds new.keeper (seen next).node.rows
 
-  -- the view's node is as before, nothing of the event waits, and the store finds the rows of before or those after the event; the store
-  -- says that it failed only if it did
+  -- the view's node and the log are as before, nothing of the event waits, and the store finds the rows of before or those after the event; the
+  -- store says that it failed only if it did
   pub record Fails (e : Option (Event B)) (old new : Acting B M K) (v : View B) (fault : KeeperFault) : Type 0 where
     pub next : View B
     pub stands : StandsFor new next
     pub moved : seen next ≡ seen v
+    pub log : new.log ≡ old.log
     pub queues : (k : ℕ) → IsPeer old.node.me old.node.members k → Queues k [] old new v next
+    pub loads : takes_no_log same old.node.members loaded e (seen v).node ≡ false
     pub found : (x : Rows B) → finds new.keeper x → (x ≡ (seen v).node.rows) ⊎ (x ≡ (moved_by same old.node.members e (seen v)).node.rows)
     pub cause : fault ≡ store.Store → failures old.keeper < failures new.keeper
 
@@ -122,7 +129,8 @@ module _ {B S Y M K : Type 0} (same : B → B → Bool) (steps : Steps B S Y) (c
   Acts e old new v (Err Rounds) = (old.spoiled ≡ false) × (has_no_round e (seen v).node ≡ true) × (new ≡ old)
   Acts e old new v (Err Full) = (old.spoiled ≡ false) × (has_no_room same e (seen v).node ≡ true) × (new ≡ old)
   Acts e old new v (Err Disagree) =
-      (old.spoiled ≡ false) × (new.spoiled ≡ true) × IsTaken e old v × (disagrees same old.node.members e (seen v).node ≡ true)
+      (old.spoiled ≡ false) × (new.spoiled ≡ true) × IsTaken e old v
+      × ((disagrees same old.node.members e (seen v).node || takes_no_log same old.node.members loaded e (seen v).node) ≡ true)
       × Stops None old new v
   Acts e old new v (Err (Keeper fault)) = (old.spoiled ≡ false) × (new.spoiled ≡ true) × IsAgreed e old v × Fails e old new v fault
   Acts e old new v (Err (LostHere says)) =
@@ -132,3 +140,8 @@ module _ {B S Y M K : Type 0} (same : B → B → Bool) (steps : Steps B S Y) (c
       (old.spoiled ≡ false) × (new.spoiled ≡ true) × IsTaken e old v × (disagrees same old.node.members e (seen v).node ≡ false)
       × (is_worn e v ≡ true) × Stops None old new v
   Acts e old new v (Err Memory) = (old.spoiled ≡ false) × (new.spoiled ≡ true) × IsAgreed e old v × Stops e old new v
+
+  -- what a call returns that cuts to this snapshot: the event is made if it is possible; a fault is told as one of the event, even if it is not
+  abbrev pub Cuts : Option taken.Snapshot → Acting B M K → Acting B M K → View B → Result (Vec Y Global) (ActorFault Y) → Type 0
+  Cuts snapshot old new v (Ok says) = Acts (cut_to old.node.me snapshot (seen v).node) old new v (Ok says)
+  Cuts snapshot old new v (Err fault) = Acts (Some (Cut old.node.me snapshot)) old new v (Err fault)

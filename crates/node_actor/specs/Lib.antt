@@ -6,6 +6,8 @@ pub mod Actor
 pub mod Heard
 pub mod Steps
 pub mod Views
+pub mod Snapshots
 pub mod Calls
 pub mod Turns
 pub mod Restarts
+pub mod Examples

@@ -1,6 +1,6 @@
 -- What a restart is among the events of the core, and why one is refused (docs/CONSENSUS.md, "A node with its store").
 use Rattle.std.specs.Prelude.{◌≡◌, ◌⊎◌, ◌<◌, ◌≤◌, ◌^◌, ℕ, zero, suc, ◌-◌, nat_lt, Bool, true, false, Result, Ok, Err, Some, None, List, []}
-use Rattle.std.specs.Prelude.{◌∷◌, is_some, if◌then◌else◌}
+use Rattle.std.specs.Prelude.{◌∷◌, Option, is_some, if◌then◌else◌}
 use Rattle.paxos_packets.specs.Rows.{raised}
 use Rattle.paxos_packets.specs.declared.rows.Rows.{Rows}
 use Rattle.paxos_acceptor.specs.Acceptor as accepting
@@ -17,7 +17,9 @@ use Rattle.paxos_node.specs.declared.outcome.Outcome.{Outcome}
 use Rattle.paxos_planning.specs.Node.{NodeState}
 use Rattle.mail_table.specs.Seats.{Seated}
 use Rattle.actor_parts.specs.declared.fault.ActorFault.{ActorFault}
-use Rattle.actor_parts.specs.declared.fault.ActorFault.TheVariants.{Keeper, Worn, Memory}
+use Rattle.actor_parts.specs.declared.fault.ActorFault.TheVariants.{Failed, Rounds, Full, Keeper, Disagree, LostHere, Worn, Memory}
+use Rattle.actor_parts.specs.Snapshots.{is_no_log}
+use Rattle.paxos_packets.specs.Snapshot as taken
 use Rattle.node_actor.specs.Compare.{fit_of, is_ahead}
 use Rattle.node_actor.specs.declared.compare.Fit.{Fit}
 use Rattle.node_actor.specs.declared.compare.Fit.TheVariants.{Left, Meant, Others}
@@ -68,10 +70,21 @@ pub record Returns {B : Type 0} (same : B → B → Bool) (p : Posted B) (r : Ro
   pub posted : w.part.posted ≡ v.part.posted
   pub received : w.part.received ≡ v.part.received
 
--- the store has rows with a snapshot, or the node was opened, and may not find these rows again
-abbrev pub HasOthers : {B : Type 0} → (B → B → Bool) → Posted B → Rows B → Type 0
-HasOthers {B} same p r =
-    (is_some r.snapshot ≡ true) ⊎ ((k : Rows B) × (p.rows ≡ Some k) × (fit_of same p.failed k r ≡ Others))
+-- the store has rows with a snapshot of which no log is made, or the node was opened, and may not find these rows again
+abbrev pub HasOthers : {B S : Type 0} → (B → B → Bool) → (List ℕ → Option S) → Posted B → Rows B → Type 0
+HasOthers {B} same loaded p r =
+    (is_no_log loaded r.snapshot ≡ true) ⊎ ((k : Rows B) × (p.rows ≡ Some k) × (fit_of same p.failed k r ≡ Others))
+
+-- why no log was made of the snapshot in rows: its octets are none of a log, or memory ran out
+abbrev pub IsUnmade : {S Y : Type 0} → (List ℕ → Option S) → Option taken.Snapshot → ActorFault Y → Type 0
+IsUnmade loaded snapshot (Keeper fault) = (fault ≡ store.Damaged) × (is_no_log loaded snapshot ≡ true)
+IsUnmade loaded snapshot Memory = Unit {0}
+IsUnmade loaded snapshot Failed = ⊥
+IsUnmade loaded snapshot Rounds = ⊥
+IsUnmade loaded snapshot Full = ⊥
+IsUnmade loaded snapshot Disagree = ⊥
+IsUnmade loaded snapshot (LostHere says) = ⊥
+IsUnmade loaded snapshot Worn = ⊥
 
 -- whether the failed event's step comes first; else the store has other rows, or the node's word does not count the events that are to come
 abbrev pub judge_of : {Y : Type 0} → Fit → ℕ → Result Bool (ActorFault Y)
@@ -102,10 +115,10 @@ module _ {B K : Type 0} (same : B → B → Bool) (holds finds : K → Rows B �
         → suc p.seat.part.events < 2 ^ 62
         → Found p old new r meant
 
-  -- the node was never opened, or a load gave rows that it may find again; and its word counts the events that are to come
-  pub data Fits (p : Posted B) (old mid : K) : Type 0 where
-    anew : p.rows ≡ None → mid ≡ old → p.seat.part.events < 2 ^ 62 → Fits p old mid
-    again : (r : Rows B) (meant : Bool) → Found p old mid r meant → Fits p old mid
+  -- a load gave these rows: the node was never opened, or it may find them again; and its word counts the events that are to come
+  pub data Fits (p : Posted B) (old mid : K) (r : Rows B) (meant : Bool) : Type 0 where
+    anew : p.rows ≡ None → meant ≡ false → Loads old mid r → p.seat.part.events < 2 ^ 62 → Fits p old mid r meant
+    again : Found p old mid r meant → Fits p old mid r meant
 
   -- the word of the node counts no event more, or not the two that the failed event and the renewal are
   pub data IsWorn (p : Posted B) (old new : K) : Type 0 where
@@ -115,30 +128,47 @@ module _ {B K : Type 0} (same : B → B → Bool) (holds finds : K → Rows B �
     worn_meant : (k r : Rows B) → p.rows ≡ Some k → Loads old new r → fit_of same p.failed k r ≡ Meant → 2 ^ 62 ≤ suc p.seat.part.events
         → IsWorn p old new
 
+module _ {B S K : Type 0} (same : B → B → Bool) (loaded : List ℕ → Option S) (holds finds : K → Rows B → Type 0) (is_faithful : K → Type 0)
+    (failures : K → ℕ) where
   -- the node was opened, and the load failed; or its rows are others; or they are not those that were left, and memory ran out as they were
-  -- compared with those that the failed commit was to leave; or the word is worn; or it counts what is to come, and the boot did not begin, or
-  -- its rows have a snapshot; or the boot gave other rows than the load, as it never does if what lies below returned what was written
+  -- compared with those that the failed commit was to leave; or the word is worn; or it counts what is to come, and the load of a node that was
+  -- never opened failed; or no log was made of the snapshot in the rows; or one was, and the boot did not begin; or the boot gave other rows than
+  -- the load, as it never does if what lies below returned what was written
   pub data Refuses {Y : Type 0} (p : Posted B) (old new : K) : ActorFault Y → Type 0 where
-    unread : (k : Rows B) (f : KeeperFault) → p.rows ≡ Some k → Stays old new → (f ≡ store.Store → failures old < failures new)
+    unread : (k : Rows B) (f : KeeperFault) → p.rows ≡ Some k → Stays same holds finds is_faithful failures old new
+        → (f ≡ store.Store → failures old < failures new)
         → (is_faithful new → (r : Rows B) → holds old r → f ≡ store.Damaged → ⊥)
         → Refuses p old new (Keeper f)
-    others : (k r : Rows B) → p.rows ≡ Some k → Loads old new r → fit_of same p.failed k r ≡ Others
+    others : (k r : Rows B) → p.rows ≡ Some k → Loads same holds finds is_faithful failures old new r → fit_of same p.failed k r ≡ Others
         → Refuses p old new (Keeper store.Damaged)
-    unjudged : (k r : Rows B) → p.rows ≡ Some k → Loads old new r → is_ahead same k r ≡ false → is_some p.failed ≡ true
+    unjudged : (k r : Rows B) → p.rows ≡ Some k → Loads same holds finds is_faithful failures old new r
+        → is_ahead same k r ≡ false → is_some p.failed ≡ true
         → Refuses p old new Memory
-    worn : IsWorn p old new → Refuses p old new Worn
-    unbooted : (f : ActorFault Y) (mid : K) → (f ≡ Worn → ⊥) → Fits p old mid → Starts holds finds failures mid new f
-        → NoDamage holds is_faithful mid new f
+    worn : IsWorn same holds finds is_faithful failures p old new → Refuses p old new Worn
+    unread_first : (f : KeeperFault) → p.rows ≡ None → p.seat.part.events < 2 ^ 62 → Stays same holds finds is_faithful failures old new
+        → (f ≡ store.Store → failures old < failures new)
+        → (is_faithful new → (r : Rows B) → holds old r → f ≡ store.Damaged → ⊥)
+        → Refuses p old new (Keeper f)
+    unmade : (f : ActorFault Y) (r : Rows B) (meant : Bool) → Fits same holds finds is_faithful failures p old new r meant
+        → IsUnmade loaded r.snapshot f → Refuses p old new f
+    unbooted : (f : ActorFault Y) (mid : K) (r : Rows B) (meant : Bool) → (f ≡ Worn → ⊥)
+        → Fits same holds finds is_faithful failures p old mid r meant
+        → is_no_log loaded r.snapshot ≡ false → Starts holds finds failures mid new f → NoDamage holds is_faithful mid new f
         → Refuses p old new f
-    strayed : (mid : K) → Fits p old mid → (is_faithful new → ⊥) → Starts {Y = Y} holds finds failures mid new (Keeper store.Damaged)
+    strayed : (mid : K) (r : Rows B) (meant : Bool) → Fits same holds finds is_faithful failures p old mid r meant
+        → is_no_log loaded r.snapshot ≡ false → (is_faithful new → ⊥)
+        → Starts {Y = Y} holds finds failures mid new (Keeper store.Damaged)
         → Refuses p old new (Keeper store.Damaged)
 
 -- a boot is ready to be taken over: the rows and the empty outboxes that it begins with, and how it came to them
-module _ {B K : Type 0} (same : B → B → Bool) (holds finds : K → Rows B → Type 0) (is_faithful : K → Type 0) (is_failed : K → Bool)
-    (failures : K → ℕ) where
+module _ {B S K : Type 0} (same : B → B → Bool) (loaded : List ℕ → Option S) (holds finds : K → Rows B → Type 0) (is_faithful : K → Type 0)
+    (is_failed : K → Bool) (failures : K → ℕ) where
   pub record Readied (p : Posted B) (old new : K) (r : Ready B) : Type 0 where
     pub mid : K
-    pub fits : Fits same holds finds is_faithful failures p old mid
+    pub rows : Rows B
+    pub fits : Fits same holds finds is_faithful failures p old mid rows r.meant
+    pub readable : is_no_log loaded rows.snapshot ≡ false
+    pub snapshot : r.rows.snapshot ≡ rows.snapshot
     pub found : (x : Rows B) → holds mid x → FindsOr finds mid new (raised x)
     pub faithful : is_faithful new → is_faithful mid
     pub boots : Boots holds is_faithful old new r.rows

@@ -1,22 +1,25 @@
 -- An actor begins, and goes on from what is left of one (docs/CONSENSUS.md, "A node with its store").
-use Rattle.std.specs.Prelude.{◌≡◌, ℕ, Bool, false, List, []}
+use Rattle.std.specs.Prelude.{◌≡◌, ℕ, Bool, false, Option, List, []}
+use Rattle.paxos_packets.specs.declared.entry.Entry.{Entry}
 use Rattle.paxos_packets.specs.declared.rows.Rows.{Rows}
 use Rattle.actor_outboxes.specs.Outboxes.{waiting}
-use Rattle.replica_machine.specs.Log.{Follows}
+use Rattle.replica_machine.specs.Log.{IsLogOf, machine_from}
 use Rattle.replica_machine.specs.Replay.{Steps}
 use Rattle.paxos_node.specs.Applying.{started}
 use Rattle.paxos_node.specs.declared.event.Event.{Event}
 use Rattle.paxos_node.specs.declared.view.Opened.TheVariants.{With}
 use Rattle.actor_parts.specs.declared.fault.ActorFault.{ActorFault}
 use Rattle.node_actor.specs.Posts.{Posted}
+use Rattle.node_actor.specs.Snapshots.{IsFirstLog, BeginsAfter}
 use Rattle.node_actor.specs.Beginning.{Leaves, Renews, Starts}
 use Rattle.node_actor.specs.Preparing.{ArePossible, ComesBack, moved_by_all}
 use Rattle.node_actor.specs.Actor.{Acting, no_turn}
 use Rattle.node_actor.specs.Views.{View, seen, posted_to, received_from, StandsFor}
 
 -- an actor begins with the rows of its store, raised by one boot: it stands for a view that was opened with them, or begins anew with them,
--- nothing waits, and no turn was taken
-module _ {B S Y M K : Type 0} (steps : Steps B S Y) (content : M → S) (holds : K → Rows B → Type 0) (is_faithful : K → Type 0) where
+-- nothing waits, no turn was taken, and its log is that of the snapshot in the rows, or the empty one
+module _ {B S Y M K : Type 0} (steps : Steps B S Y) (content : M → S) (loaded : List ℕ → Option S) (holds : K → Rows B → Type 0)
+    (is_faithful : K → Type 0) where
   pub record Opens (p : Posted B) (machine : M) (keeper : K) (a : Acting B M K) : Type 0 where
     pub renews : Renews holds is_faithful p keeper a.keeper a.seat
     pub stands : StandsFor a a.seat
@@ -25,7 +28,9 @@ module _ {B S Y M K : Type 0} (steps : Steps B S Y) (content : M → S) (holds :
     pub waits : (k : ℕ) → waiting k a.waiting ≡ []
     pub last : a.last ≡ no_turn
     pub fresh : a.spoiled ≡ false
-    pub follows : Follows steps content (content machine) a.log
+    pub log : IsFirstLog content loaded machine renews.rows.snapshot a.log
+    pub follows : (first : S) (under : List (Entry B)) → BeginsAfter content loaded (machine_from steps first) machine under renews.rows.snapshot
+        → IsLogOf steps content first under a.log
 
 -- its view was opened with these rows
 pub record OpensFirst {B M K : Type 0} (holds : K → Rows B → Type 0) (me : ℕ) (v : View B) (a : Acting B M K) : Type 0 where

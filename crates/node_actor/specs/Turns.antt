@@ -119,8 +119,8 @@ abbrev pub heard_got : {B : Type 0} → Option (ℕ × Packet B) → Option Hear
 heard_got None = None
 heard_got (Some got) = Some (heard_in got.1.kind)
 
-module _ {B S Y M K : Type 0} (same : B → B → Bool) (steps : Steps B S Y) (content : M → S) (holds : K → Rows B → Type 0)
-    (finds : K → Rows B → Type 0) (failures : K → ℕ) where
+module _ {B S Y M K : Type 0} (same : B → B → Bool) (steps : Steps B S Y) (content : M → S) (loaded : List ℕ → Option S)
+    (holds : K → Rows B → Type 0) (finds : K → Rows B → Type 0) (failures : K → ℕ) where
   -- what was due was posted, as far as tries won; then it was fetched, from one peer after another, until a try won; what came, if anything
   -- did, is the event that the call makes of the actor that had posted; and the actor shows to which peers it posted, from which one a packet
   -- came, and what that shows, whatever the event makes of it
@@ -134,7 +134,7 @@ module _ {B S Y M K : Type 0} (same : B → B → Bool) (steps : Steps B S Y) (c
     pub got : Option (ℕ × Packet B)
     pub behind : Part B
     pub fetches : Fetches old.node.members (round old.node.me old.node.members first) between.part got behind
-    pub acts : Acts same steps content holds finds failures (turn_event old.node.me old.node.members (packet_got got)) mid new between result
+    pub acts : Acts same steps content loaded holds finds failures (turn_event old.node.me old.node.members (packet_got got)) mid new between result
     pub tried : new.seat.part.tried ≡ behind.tried
     pub received : new.seat.part.received ≡ behind.received
     pub posted : new.seat.part.posted ≡ behind.posted

@@ -1,9 +1,7 @@
 -- Views of an actor: what is known of its node, and of the packets that it exchanged.
-use Rattle.std.specs.Prelude.{◌≡◌, ℕ, Bool, true, false, ◌==◌, ◌&&◌, not, Option, Some, None, List, [], ◌++◌, All, Contains, filter, map, option_to_list}
+use Rattle.std.specs.Prelude.{◌≡◌, ℕ, Bool, ◌==◌, ◌&&◌, not, Option, Some, None, List, [], ◌++◌, All, Contains, filter, map, option_to_list}
 use Rattle.circular_buffer.specs.Buffer.{keep_last}
 use Rattle.paxos_packets.specs.Members.{is_member}
-use Rattle.paxos_packets.specs.declared.packet.Kind.{Kind}
-use Rattle.paxos_packets.specs.declared.packet.Kind.TheVariants.{Snapshot}
 use Rattle.paxos_packets.specs.declared.packet.Packet.{Packet}
 use Rattle.actor_outboxes.specs.Outboxes.{most_waiting, waiting, to, IsPeer}
 use Rattle.paxos_node.specs.declared.event.Event.{Event}
@@ -22,15 +20,9 @@ View B = Seated B
 abbrev pub seen : {B : Type 0} → View B → Viewed B
 seen v = v.part.seen
 
--- a snapshot, which an actor does not hand to its node
-abbrev pub is_snapshot : {B : Type 0} → Kind B → Bool
-is_snapshot (Snapshot s) = true
-is_snapshot _ = false
-
--- a packet that a node is handed: it is for the node, from another member, and no snapshot
+-- a packet that a node is handed: it is for the node, from another member
 abbrev pub is_for : {B : Type 0} → ℕ → ℕ → Packet B → Bool
-is_for me members p =
-    (p.addressee == me) && (is_member members p.sender && (not (p.sender == me) && not (is_snapshot p.kind)))
+is_for me members p = (p.addressee == me) && (is_member members p.sender && not (p.sender == me))
 
 abbrev pub packets_of : {B : Type 0} → List (Parcel B) → List (Packet B)
 packets_of qs = map (λ q. q.packet) qs

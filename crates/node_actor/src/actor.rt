@@ -1,21 +1,27 @@
 // The actor: how it takes events and turns, what it shows, and how it crashes or leaves.
-ghost use Rattle.std.specs.Prelude.{◌≡◌, ℕ, List, [], length, nat_lt, true, false, Some, None, Err};
+ghost use Rattle.std.specs.Prelude.{◌≡◌, ◌<◌, ◌++◌, ℕ, List, [], length, nat_lt, true, false, Some, None, Err, OnOk};
+ghost use Rattle.paxos_packets.specs.Snapshot.{floor_in};
+ghost use Rattle.paxos_node.specs.Snapshots.{may_cut};
+ghost use Rattle.replica_machine.specs.Given.{AreGiven};
+ghost use Rattle.cluster_world.specs.MemberSnapshots.{own_cut, LoadsSaved};
+ghost use Rattle.actor_parts.specs.Snapshots.{is_no_log};
+ghost use Rattle.node_actor.specs.Snapshots.{HasUnder};
 ghost use Rattle.paxos_packets.specs.declared.entry.Entry.{Entry};
 ghost use Rattle.paxos_node.specs.declared.event.Event.TheVariants.{Take, Tick, Start, Suspect};
 ghost use Rattle.paxos_proposer.specs.Proposer.{is_leading};
-ghost use Rattle.replica_machine.specs.Log.{IsLogOf};
+ghost use Rattle.replica_machine.specs.Log.{IsLogOf, machine_from};
 ghost use Rattle.actor_parts.specs.declared.fault.ActorFault.TheVariants.{Failed};
 ghost use Rattle.actor_parts.specs.Parts.{IsPrefixOf, IsSound, open_slots};
 ghost use Rattle.node_actor.specs.Posts.{LeftOf};
 ghost use Rattle.actor_outboxes.specs.Outboxes.{waiting};
 ghost use Rattle.mail_table.specs.Seats.{Owns};
 ghost use Rattle.node_actor.specs.Actor.{acting, IsSeated};
-ghost use Rattle.node_actor.specs.Calls.{Acts, Rests, is_own, take_event};
+ghost use Rattle.node_actor.specs.Calls.{Acts, Cuts, Rests, is_own, take_event};
 ghost use Rattle.node_actor.specs.Turns.{Turns};
 ghost use Rattle.node_actor.specs.Views.{View, seen, StandsFor};
 ghost use Rattle.paxos_planning.specs.Node.{told_length};
 
-use crate::event::{make_event, pass};
+use crate::event::{make_cut, make_event, pass};
 use crate::heard::Heard;
 use crate::post::Post;
 use crate::turning::{LastTurn, turn};
@@ -95,7 +101,7 @@ impl<M: Machine, K: Keeper<M::Body>> Actor<M, K> {
         ensures members { self.new.node.members ≡ self.old.node.members }
         ensures last { self.new.last ≡ self.old.last }
         ensures acts { (view : View M.Body) → StandsFor self.old view →
-            Acts M.Body.same M.steps M.content K.holds K.finds K.failures (Some event.now)
+            Acts M.Body.same M.steps M.content M.loaded K.holds K.finds K.failures (Some event.now)
             self.old self.new view result }
     {
         make_event(mail, &mut self.seat, &mut self.parts, event)
@@ -114,7 +120,7 @@ impl<M: Machine, K: Keeper<M::Body>> Actor<M, K> {
         ensures members { self.new.node.members ≡ self.old.node.members }
         ensures last { self.new.last ≡ self.old.last }
         ensures acts { (view : View M.Body) → StandsFor self.old view →
-            Acts M.Body.same M.steps M.content K.holds K.finds K.failures (take_event self.old.node.me number body)
+            Acts M.Body.same M.steps M.content M.loaded K.holds K.finds K.failures (take_event self.old.node.me number body)
             self.old self.new view result }
         ensures rests { number ≡ 0 → Rests self.old self.new result }
     {
@@ -130,9 +136,9 @@ impl<M: Machine, K: Keeper<M::Body>> Actor<M, K> {
     }
 
     /// Takes a turn: for each peer for which packets are due, tries once to post the oldest; then tries to fetch from one peer after
-    /// another, until a try wins. The packet that came, if one did, reaches the node; without one, with one for another node, with one that
-    /// is from no other member, or with a snapshot, nothing more happens. Each turn begins to fetch after the peer whose packet came last,
-    /// or one peer further on.
+    /// another, until a try wins. The packet that came, if one did, reaches the node; without one, with one for another node, or with one
+    /// that is from no other member, nothing more happens. If the node takes a snapshot, a machine that is made of it follows the log from
+    /// then on; `Disagree` if no log is made of it. Each turn begins to fetch after the peer whose packet came last, or one peer further on.
     pub fn turn(&mut self, mail: &Mail<M::Body>) -> Result<Vec<M::Say>, ActorFault<M::Say>>
         requires owned { Owns mail.now self.old.seat }
         ensures still_owned { Owns mail.now self.new.seat }
@@ -140,7 +146,7 @@ impl<M: Machine, K: Keeper<M::Body>> Actor<M, K> {
         ensures members { self.new.node.members ≡ self.old.node.members }
         ensures spoiled { self.old.spoiled ≡ true → (self.new ≡ self.old) × (result ≡ Err Failed) }
         ensures turns { (view : View M.Body) → StandsFor self.old view → self.old.spoiled ≡ false →
-            Turns M.Body.same M.steps M.content K.holds K.finds K.failures self.old self.new view result }
+            Turns M.Body.same M.steps M.content M.loaded K.holds K.finds K.failures self.old self.new view result }
     {
         if self.parts.is_spoiled() {
             return Err(ActorFault::Failed);
@@ -162,7 +168,7 @@ impl<M: Machine, K: Keeper<M::Body>> Actor<M, K> {
         ensures members { self.new.node.members ≡ self.old.node.members }
         ensures last { self.new.last ≡ self.old.last }
         ensures acts { (view : View M.Body) → StandsFor self.old view →
-            Acts M.Body.same M.steps M.content K.holds K.finds K.failures (Some (Tick self.old.node.me))
+            Acts M.Body.same M.steps M.content M.loaded K.holds K.finds K.failures (Some (Tick self.old.node.me))
             self.old self.new view result }
     {
         let own = Event::Tick { node: self.me() };
@@ -177,7 +183,7 @@ impl<M: Machine, K: Keeper<M::Body>> Actor<M, K> {
         ensures members { self.new.node.members ≡ self.old.node.members }
         ensures last { self.new.last ≡ self.old.last }
         ensures acts { (view : View M.Body) → StandsFor self.old view →
-            Acts M.Body.same M.steps M.content K.holds K.finds K.failures (Some (Start self.old.node.me))
+            Acts M.Body.same M.steps M.content M.loaded K.holds K.finds K.failures (Some (Start self.old.node.me))
             self.old self.new view result }
     {
         let own = Event::Start { node: self.me() };
@@ -196,7 +202,7 @@ impl<M: Machine, K: Keeper<M::Body>> Actor<M, K> {
         ensures members { self.new.node.members ≡ self.old.node.members }
         ensures last { self.new.last ≡ self.old.last }
         ensures acts { (view : View M.Body) → StandsFor self.old view →
-            Acts M.Body.same M.steps M.content K.holds K.finds K.failures (Some (Suspect self.old.node.me node))
+            Acts M.Body.same M.steps M.content M.loaded K.holds K.finds K.failures (Some (Suspect self.old.node.me node))
             self.old self.new view result }
     {
         let own = Event::Suspect {
@@ -204,6 +210,34 @@ impl<M: Machine, K: Keeper<M::Body>> Actor<M, K> {
             other: node,
         };
         self.event(mail, &own)
+    }
+
+    /// Lets the node rest on what its machine's log is saved as, if entries are applied above the floor: they are forgotten, and with them the
+    /// votes up to there, and the log stands for the same one. Otherwise nothing happens. `Memory` comes too if the machine has failed.
+    ///
+    /// Takes the time of the machine's `save`, two copies of its octets, and a pass over the votes and entries that are forgotten.
+    pub fn cut(&mut self, mail: &Mail<M::Body>) -> Result<Vec<M::Say>, ActorFault<M::Say>>
+        requires owned { Owns mail.now self.old.seat }
+        ensures still_owned { Owns mail.now self.new.seat }
+        ensures me { self.new.node.me ≡ self.old.node.me }
+        ensures members { self.new.node.members ≡ self.old.node.members }
+        ensures last { self.new.last ≡ self.old.last }
+        ensures cuts { (view : View M.Body) → StandsFor self.old view →
+            Cuts M.Body.same M.steps M.content M.loaded K.holds K.finds K.failures (own_cut M.saved M.content self.old.log)
+            self.old self.new view result }
+        ensures rests { self.old.node.state.applied ≡ [] → Rests self.old self.new result }
+        ensures whole { (first : M.Content) (under : List (Entry M.Body)) → self.old.spoiled ≡ false
+            → HasUnder M.steps M.content first under self.old
+            → may_cut (own_cut M.saved M.content self.old.log) self.old.node.state ≡ nat_lt 0 (length self.old.node.state.applied) }
+        ensures brings { (first : M.Content) (under : List (Entry M.Body)) → IsLogOf M.steps M.content first under self.old.log
+            → AreGiven (under ++ self.old.log.applied) → OnOk result (0 < length self.old.log.applied
+            → LoadsSaved M.saved M.loaded (machine_from M.steps first) (under ++ self.old.log.applied)) }
+        ensures loads { (first : M.Content) (under : List (Entry M.Body)) → IsLogOf M.steps M.content first under self.old.log
+            → M.is_sound first → AreGiven (under ++ self.old.log.applied) → OnOk result (0 < length self.old.log.applied
+            → is_no_log M.loaded (own_cut M.saved M.content self.old.log) ≡ false) }
+    {
+        self.parts.fits_slots(); // for the proof
+        make_cut(mail, &mut self.seat, &mut self.parts)
     }
 
     /// Returns the number of its node.
@@ -225,6 +259,13 @@ impl<M: Machine, K: Keeper<M::Body>> Actor<M, K> {
         ensures { result ≡ told_length self.now.node.state }
     {
         self.parts.applied()
+    }
+
+    /// Returns the floor, up to which its node's snapshot gives the log.
+    pub fn floor(&self) -> u64
+        ensures { result ≡ floor_in self.now.node.state.rows.snapshot }
+    {
+        self.parts.floor()
     }
 
     /// Returns whether entries of its node wait for a slot.
@@ -289,13 +330,12 @@ impl<M: Machine, K: Keeper<M::Body>> Actor<M, K> {
         self.last.posted
     }
 
-    /// Returns the node's log, slot 1 first, since no snapshot gives a part of it; empty once the node is down. If running out of memory ended
-    /// the actor, the last entries may be missing. Does not allocate.
+    /// Returns the entries of the node's log above the floor, in the order of their slots; none once the node is down. If running out of memory
+    /// ended the actor, the last entries may be missing. Does not allocate.
     pub fn log(&self) -> &[Entry<M::Body>]
         ensures whole { (view : View M.Body) → StandsFor self.now view → self.now.spoiled ≡ false → result.now ≡ (seen view).node.applied }
         ensures front { (view : View M.Body) → StandsFor self.now view → IsPrefixOf result.now (seen view).node.applied }
         ensures down { self.now.node.state.up ≡ false → result.now ≡ [] }
-        ensures plain { self.now.spoiled ≡ false → self.now.node.state.rows.snapshot ≡ None }
     {
         self.parts.log()
     }
@@ -327,6 +367,7 @@ impl<M: Machine, K: Keeper<M::Body> + Drop> Actor<M, K> {
     pub fn leave(self) -> (NodeSeat<M::Body>, AppliedLog<M>)
         ensures seat { result.0 ≡ self.seat }
         ensures log { (view : View M.Body) → StandsFor self view → self.spoiled ≡ false → result.1.applied ≡ (seen view).node.applied }
+        ensures floor { (view : View M.Body) → StandsFor self view → self.spoiled ≡ false → result.1.floor ≡ floor_in (seen view).node.rows.snapshot }
         ensures machine { (first : M.Content) (under : List (Entry M.Body))
             → IsLogOf M.steps M.content first under self.log
             → IsLogOf M.steps M.content first under result.1 }

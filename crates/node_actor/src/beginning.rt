@@ -6,6 +6,7 @@ ghost use Rattle.std.specs.Prelude.{◌≤◌, None, Some};
 ghost use Rattle.node_actor.specs.Posts.{IsLeft, renewed};
 ghost use Rattle.node_actor.specs.Beginning.{Begins, IsNodeOf, Leaves, MayBegin, seat_before};
 ghost use Rattle.node_actor.specs.Preparing.{Refuses};
+ghost use Rattle.node_actor.specs.Snapshots.{IsFirstLog};
 
 use crate::post::Post;
 use crate::preparing::{Ready, prepare};
@@ -15,6 +16,7 @@ use actor_parts::ActorFault;
 use mail_table::{Mail, NodeSeat};
 use paxos_node::Node;
 use paxos_packets::Body;
+use replica_machine::{AppliedLog, Machine};
 use std::alloc::Global;
 use store_keeper::Keeper;
 
@@ -27,31 +29,37 @@ pub(crate) struct Begun<B: Body> {
 }
 
 // Begins a boot of the node from what is left of it, with its store opened again. Opens the node if it was never opened; otherwise goes on
-// from its rows, or from those that a failed commit was to leave, whose event's step it takes first.
+// from its rows, or from those that a failed commit was to leave, whose event's step it takes first. Returns also the log with which it begins:
+// that of the snapshot in its rows, or the empty one with this machine.
 //
-// After a fault the post is handed back, and serves again. `KeeperFault::Damaged` if the store has other rows, and no boot is begun then; or
-// after the boot, if its rows have a snapshot; and never otherwise if it returns what was written. `Worn` if the node's word cannot count more
-// events; no boot is begun then, either.
-pub(crate) fn begin<B: Body, K: Keeper<B>, Y: Drop>(
+// After a fault the post is handed back, and serves again. `KeeperFault::Damaged` if the store has other rows, or no log is made of their
+// snapshot; no boot is begun then. Never otherwise if it returns what was written. `Worn` if the node's word cannot count more events; no boot is
+// begun then, either.
+pub(crate) fn begin<M: Machine, K: Keeper<M::Body>>(
     alloc: Global,
-    mail: &Mail<B>,
-    post: Post<B>,
+    mail: &Mail<M::Body>,
+    post: Post<M::Body>,
+    machine: M,
     keeper: &mut K,
-) -> Result<Begun<B>, (ActorFault<Y>, Post<B>)>
+) -> Result<(Begun<M::Body>, AppliedLog<M>), (ActorFault<M::Say>, Post<M::Body>)>
     requires owned { Owns mail.now post.seat }
-    ensures ok { IfOk result (λ begun.
-        Begins K.holds K.is_faithful K.is_failed post keeper.old keeper.new begun.node begun.outboxes begun.seat) }
-    ensures refuses { IfErr result (λ e. Refuses B.same K.holds K.finds K.is_faithful K.failures post keeper.old keeper.new e.0) }
+    ensures ok { IfOk result (λ it.
+        Begins K.holds K.is_faithful K.is_failed post keeper.old keeper.new it.0.node it.0.outboxes it.0.seat) }
+    ensures log { IfOk result (λ it. IsFirstLog M.content M.loaded machine it.0.node.state.rows.snapshot it.1) }
+    ensures refuses { IfErr result (λ e. Refuses M.Body.same M.loaded K.holds K.finds K.is_faithful K.failures post keeper.old keeper.new e.0) }
     ensures leaves { IfErr result (λ e. Leaves K.holds K.is_faithful post keeper.old keeper.new e.1 e.0) }
-    ensures owned { IfOk result (λ begun. Owns mail.now begun.seat) }
+    ensures owned { IfOk result (λ it. Owns mail.now it.0.seat) }
     ensures still_owned { IfErr result (λ e. Owns mail.now e.1.seat) }
-    ensures left { IsLeft B.same post }
+    ensures left { IsLeft M.Body.same post }
 {
-    match prepare(alloc, &post, keeper) {
+    match prepare(alloc, &post, machine, keeper) {
         Err(fault) => Err((fault, post)),
-        Ok(ready) => match sit(alloc, mail, post, ready) {
-            Err(post) => Err((ActorFault::Memory, post)),
-            Ok(begun) => Ok(begun),
+        Ok((ready, log)) => match sit(alloc, mail, post, ready) {
+            Err(post) => {
+                drop(log);
+                Err((ActorFault::Memory, post))
+            },
+            Ok(begun) => Ok((begun, log)),
         },
     }
 }

@@ -1,7 +1,47 @@
-//! What the definitions of a turn say, each as the contract of a function that does nothing.
+//! What the definitions of an actor say, each as the contract of a function that does nothing.
+ghost use Rattle.std.specs.Prelude.{◌≡◌, true, false, Some, None, [], ◌∷◌};
+ghost use Rattle.paxos_node.specs.Applying.{down, started};
+ghost use Rattle.paxos_planning.specs.Node.{told_length};
+ghost use Rattle.replica_machine.specs.Examples.{adding, lost_and_back, transport};
+ghost use Rattle.replica_machine.specs.SnapshotExamples.{of_eight};
+ghost use Rattle.node_actor.specs.Compare.{fit_of};
+ghost use Rattle.node_actor.specs.Examples.{same_number, summed_up, cut_short, logs, first_node, full_node, rested_rows, ahead_node};
+ghost use Rattle.node_actor.specs.Examples.{brings, cuts, voted_rows, cut_outcome, cut_rows, bare_cut_rows};
+ghost use Rattle.node_actor.specs.Snapshots.{takes_over, takes_no_log, log_before, under_after, handed_by, cut_to};
 ghost use Rattle.node_actor.specs.Turns.{EachIsTried};
+ghost use Rattle.node_actor.specs.declared.compare.Fit.TheVariants.{Left, Meant, Others};
 
 /// A round of fetches tries each other member, whichever it begins from. So a turn that got no packet tried to fetch from each.
 pub fn each_is_tried()
     ensures { EachIsTried }
+{}
+
+/// Cuts, and snapshots that nodes take over, computed. Does not allocate.
+pub fn snapshot_examples()
+    // a node cuts that has applied entries above its floor, and no other; it says nothing then, and has the same log after it
+    ensures cut { cut_to 2 (Some summed_up) full_node ≡ Some cuts }
+    ensures cut_none { cut_to 2 (Some summed_up) (first_node 2) ≡ None }
+    ensures cut_silent { handed_by same_number 3 adding logs [] (Some cuts) full_node ≡ [] }
+    ensures cut_under { under_after same_number 3 logs [] (Some cuts) full_node ≡ lost_and_back }
+
+    // a snapshot is taken over by a node whose boot it does not have, and what is applied and said then follows its log
+    ensures taken { takes_over same_number 3 (Some (brings summed_up 2)) (first_node 2) ≡ Some summed_up }
+    ensures read { takes_no_log same_number 3 of_eight (Some (brings summed_up 2)) (first_node 2) ≡ false }
+    ensures taken_before { log_before same_number 3 logs [] (Some (brings summed_up 2)) ahead_node ≡ lost_and_back }
+    ensures taken_under { under_after same_number 3 logs [] (Some (brings summed_up 2)) ahead_node ≡ lost_and_back }
+    ensures taken_says { handed_by same_number 3 adding logs [] (Some (brings summed_up 2)) ahead_node ≡ (transport 2 1 1, 107) ∷ [] }
+
+    // one of which no log is made is told so, but not by a node that would not take it over
+    ensures unread { takes_no_log same_number 3 of_eight (Some (brings cut_short 2)) (first_node 2) ≡ true }
+    ensures passed { takes_over same_number 3 (Some (brings cut_short 3)) (first_node 3) ≡ None }
+    ensures passed_read { takes_no_log same_number 3 of_eight (Some (brings cut_short 3)) (first_node 3) ≡ false }
+
+    // a node begins as long as its snapshot says; one that is down has no length
+    ensures begins { told_length (started 2 rested_rows) ≡ 12 }
+    ensures downs { told_length (down rested_rows) ≡ 0 }
+
+    // after a cut whose commit failed a store may have the rows of before, or those that it was to leave, but no others
+    ensures left { fit_of same_number (Some cut_outcome) voted_rows voted_rows ≡ Left }
+    ensures meant { fit_of same_number (Some cut_outcome) voted_rows cut_rows ≡ Meant }
+    ensures others { fit_of same_number (Some cut_outcome) voted_rows bare_cut_rows ≡ Others }
 {}

@@ -57,7 +57,7 @@ pub(crate) fn turn<M: Machine, K: Keeper<M::Body>>(
     ensures seated { IsSeated M.Body.same (acting parts.new seat.new) }
     ensures first { IsMember parts.new.node.members first.new }
     ensures who { StaysWho parts.old parts.new }
-    ensures turns { Turns M.Body.same M.steps M.content K.holds K.finds K.failures
+    ensures turns { Turns M.Body.same M.steps M.content M.loaded K.holds K.finds K.failures
         (acting_since last.old parts.old seat.old) (acting_since last.new parts.new seat.new) seat.old result }
 {
     let members = parts.members();

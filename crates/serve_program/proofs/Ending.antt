@@ -1,5 +1,5 @@
 -- Which faults end a boot, and a node: a restart that is refused was not refused because the node is lost.
-use Rattle.std.proofs.Common.{◌≡◌, ℕ, Bool, true, false, refl, ap, sym, ◌∙◌}
+use Rattle.std.proofs.Common.{◌≡◌, ℕ, Bool, true, false, List, Option, refl, ap, sym, ◌∙◌}
 use Rattle.std.proofs.lemmas.Bool.{false≢true}
 use Rattle.std.specs.Prelude.{◌==◌, ◌||◌, not}
 use Rattle.actor_parts.specs.Fault as actor
@@ -8,7 +8,8 @@ use Rattle.actor_parts.specs.declared.fault.ActorFault.TheVariants as acted
 use Rattle.actor_run.specs.Answers.{is_refusal, IsQuiet}
 use Rattle.node_actor.specs.Beginning.{MayKeepFrom}
 use Rattle.node_actor.specs.Posts.{Posted}
-use Rattle.node_actor.specs.Preparing.{Refuses, unread, others, unjudged, worn, unbooted, strayed}
+use Rattle.node_actor.specs.Preparing.{Refuses, IsUnmade, unread, others, unjudged, worn, unread_first, unmade, unbooted, strayed}
+use Rattle.paxos_packets.specs.Snapshot.{Snapshot}
 use Rattle.paxos_packets.specs.declared.rows.Rows.{Rows}
 use Rattle.serve_program.specs.declared.fault.NodeFault.{NodeFault}
 use Rattle.serve_program.specs.declared.fault.NodeFault.TheVariants as node
@@ -81,22 +82,36 @@ kept m n acted.Full may = absurd may
 kept m n acted.Disagree may = refl
 kept m n (acted.LostHere says) may = absurd may
 
-refused : {B K Y : Type 0} (same : B → B → Bool) (holds finds : K → Rows B → Type 0) (is_faithful : K → Type 0) (failures : K → ℕ)
-    (p : Posted B) (old new : K) (f : ActorFault Y) → Refuses same holds finds is_faithful failures p old new f
+unmade_ends : {S Y : Type 0} (loaded : List ℕ → Option S) (snapshot : Option Snapshot) (f : ActorFault Y) → IsUnmade loaded snapshot f
     → ends_by (actor.number_of f) ≡ true
-refused same holds finds is_faithful failures p old new _ (unread k f has stays rose sound) = stored f
-refused same holds finds is_faithful failures p old new _ (others k r has loads fit) = refl
-refused same holds finds is_faithful failures p old new _ (unjudged k r has loads other failed) = refl
-refused same holds finds is_faithful failures p old new _ (worn is) = refl
-refused same holds finds is_faithful failures p old new _ (unbooted f mid unworn fits starts sound) = kept (failures mid) (failures new) f starts.may
-refused same holds finds is_faithful failures p old new _ (strayed mid fits not_faithful starts) = refl
+unmade_ends loaded snapshot (acted.Keeper f) why = stored f
+unmade_ends loaded snapshot acted.Memory why = refl
+unmade_ends loaded snapshot acted.Failed why = absurd why
+unmade_ends loaded snapshot acted.Rounds why = absurd why
+unmade_ends loaded snapshot acted.Full why = absurd why
+unmade_ends loaded snapshot acted.Disagree why = absurd why
+unmade_ends loaded snapshot (acted.LostHere says) why = absurd why
+unmade_ends loaded snapshot acted.Worn why = absurd why
+
+refused : {B S K Y : Type 0} (same : B → B → Bool) (loaded : List ℕ → Option S) (holds finds : K → Rows B → Type 0) (is_faithful : K → Type 0)
+    (failures : K → ℕ) (p : Posted B) (old new : K) (f : ActorFault Y) → Refuses same loaded holds finds is_faithful failures p old new f
+    → ends_by (actor.number_of f) ≡ true
+refused same loaded holds finds is_faithful failures p old new _ (unread k f has stays rose sound) = stored f
+refused same loaded holds finds is_faithful failures p old new _ (others k r has loads fit) = refl
+refused same loaded holds finds is_faithful failures p old new _ (unjudged k r has loads other failed) = refl
+refused same loaded holds finds is_faithful failures p old new _ (worn is) = refl
+refused same loaded holds finds is_faithful failures p old new _ (unread_first f none counts stays rose sound) = stored f
+refused same loaded holds finds is_faithful failures p old new _ (unmade f r meant fits why) = unmade_ends loaded r.snapshot f why
+refused same loaded holds finds is_faithful failures p old new _ (unbooted f mid r meant unworn fits readable starts sound) =
+    kept (failures mid) (failures new) f starts.may
+refused same loaded holds finds is_faithful failures p old new _ (strayed mid r meant fits readable not_faithful starts) = refl
 
 -- so what becomes of its fault ends the node
-pub ends_refused : {B K Y : Type 0} (same : B → B → Bool) (holds finds : K → Rows B → Type 0) (is_faithful : K → Type 0) (failures : K → ℕ)
-    (p : Posted B) (old new : K) (f : ActorFault Y) → Refuses same holds finds is_faithful failures p old new f
-    → (made : NodeFault) → number_of made ≡ actor.number_of f → IsEnding made
-ends_refused same holds finds is_faithful failures p old new f is made number =
-    ends_by_number made (ap ends_by number ∙ refused same holds finds is_faithful failures p old new f is)
+pub ends_refused : {B S K Y : Type 0} (same : B → B → Bool) (loaded : List ℕ → Option S) (holds finds : K → Rows B → Type 0)
+    (is_faithful : K → Type 0) (failures : K → ℕ) (p : Posted B) (old new : K) (f : ActorFault Y)
+    → Refuses same loaded holds finds is_faithful failures p old new f → (made : NodeFault) → number_of made ≡ actor.number_of f → IsEnding made
+ends_refused same loaded holds finds is_faithful failures p old new f is made number =
+    ends_by_number made (ap ends_by number ∙ refused same loaded holds finds is_faithful failures p old new f is)
 
 -- the fault of a run, which is no refusal
 

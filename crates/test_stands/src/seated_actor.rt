@@ -107,6 +107,11 @@ impl<'a, M: Machine, K: Keeper<M::Body>> SeatedActor<'a, M, K> {
         self.actor.start(self.mail)
     }
 
+    /// Lets the node rest on what its machine's log is saved as.
+    pub fn cut(&mut self) -> Answer<M::Say> {
+        self.actor.cut(self.mail)
+    }
+
     /// Lets the actor turn for as long as the gate lets it pass. Returns whether no fault ended it.
     pub fn run<G: Gate, F: Feed<M::Body, M::Say>>(&mut self, gate: &G, feed: &mut F) -> bool {
         let done = run_node(self.mail, &mut self.actor, gate, feed);
@@ -115,14 +120,19 @@ impl<'a, M: Machine, K: Keeper<M::Body>> SeatedActor<'a, M, K> {
         good
     }
 
-    /// Returns the node's log.
+    /// Returns the node's log above its floor.
     pub fn log(&self) -> &[Entry<M::Body>] {
         self.actor.log()
     }
 
-    /// Returns how many entries the node has applied.
+    /// Returns the length of the node's log; 0 once the node is down.
     pub fn applied(&self) -> u64 {
         self.actor.applied()
+    }
+
+    /// Returns the floor, up to which the node's snapshot gives its log.
+    pub fn floor(&self) -> u64 {
+        self.actor.floor()
     }
 
     /// Returns whether entries of the node wait for a slot.

@@ -16,6 +16,7 @@ returns-clause-ok g c =
     (λ says. Applied steps g.M.Machine.content node boot c.args.entries.items c.args.log.now c.append.new.self says.items)
     (λ says kept. record {
       applied = done.applied;
+      floor = c.append.ensures.floor;
       alive = done.alive;
       says = λ first under l. own_is (machine_from steps first) node boot (under ++ c.args.log.now.applied) c.args.entries.items
           (map (λ more. more.items) c.in-Ok.said.items) says.items kept (done.told first under l);

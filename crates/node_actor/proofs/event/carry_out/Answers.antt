@@ -1,10 +1,12 @@
-use Rattle.std.proofs.Common.{◌≡◌, true, false, sym, subst, ◌∙◌, rules}
+use Rattle.std.proofs.Common.{◌≡◌, true, false, ap, sym, subst, ◌∙◌, rules}
 use Rattle.replica_machine.specs.Log.{LogState}
-use Rattle.actor_parts.specs.Steps.{IsAtEnd}
-use Rattle.actor_parts.proofs.Carrying.{Roomed, Ready, stopped_sound, fallen_sound, spoiled_sound, ready}
+use Rattle.paxos_node.specs.Adopting.{Fits}
+use Rattle.actor_parts.specs.Snapshots.{base_log}
+use Rattle.actor_parts.proofs.Carrying.{Roomed, Ready, stopped_sound, fallen_sound, spoiled_sound, ready, based}
 use Rattle.node_actor.specs.Steps.{may_advance}
 use Rattle.node_actor.proofs.Carrying.{stopped, worn_out, fallen, carried_on, sound_on}
 use Rattle.node_actor.proofs.Seating.{seated_stopped, seated_fallen, seated_on, seated_spoiled}
+use Rattle.node_actor.proofs.Viewing.{fits_on}
 use Rattle.node_actor.proofs.event.carry_out.Goals as goal
 
 pub returns-then-not-may_advance-clause-sound : goal.returns-then-not-may_advance-clause-sound
@@ -18,8 +20,8 @@ returns-then-not-may_advance-clause-seated g c =
 pub returns-then-not-may_advance-clause-did : goal.returns-then-not-may_advance-clause-did
 returns-then-not-may_advance-clause-did g c =
     let worn : may_advance c.args.seat.now ≡ false = search rules in
-    rw c.spoil.ensures (worn_out _ _ _ _ _ _ c.args.outcome c.args.parts.now c.args.seat.now worn
-    (c.requires.sound.serves c.requires.serving))
+    rw c.spoil.ensures (worn_out _ _ _ _ _ _ (base_log c.args.made c.args.outcome.change.snapshot c.args.parts.now.log) c.args.outcome
+    c.args.parts.now c.args.seat.now worn (c.requires.sound.serves c.requires.serving))
 
 pub returns-in_default-clause-sound : goal.returns-in_default-clause-sound
 returns-in_default-clause-sound g c =
@@ -51,14 +53,31 @@ returns-in_default-clause-did g c =
       rest = c.make_room.ensures.rest;
     } in
     let may : may_advance c.args.seat.now ≡ true = search rules in
-    rw c.spoil-in_default.ensures (stopped _ _ _ _ _ _ c.args.outcome c.args.parts.now c.make_room.new.self c.args.seat.now may
+    rw c.spoil-in_default.ensures (stopped _ _ _ _ _ _ _ c.args.outcome c.args.parts.now c.make_room.new.self c.args.seat.now may
     (c.requires.sound.serves c.requires.serving) room)
+
+pub take_over-requires-clause-fits : goal.take_over-requires-clause-fits
+take_over-requires-clause-fits g c =
+    let room : Roomed c.args.parts.now c.make_room.new.self = record {
+      state = c.make_room.ensures.state;
+      me = c.make_room.ensures.me;
+      members = c.make_room.ensures.members;
+      rest = c.make_room.ensures.rest;
+    } in
+    subst (λ h. Fits h.me h.members c.args.outcome h.state) (sym c.go_from.ensures.rest.node)
+    (fits_on g.M.Body.Body.same c.args.outcome c.args.parts.now c.make_room.new.self c.commit.new.self c.requires.plan room c.commit.ensures.rest)
+
+pub take_over-requires-clause-alive : goal.take_over-requires-clause-alive
+take_over-requires-clause-alive g c =
+    ap (λ (log : LogState g.row.M-Body.Denot g.row.M.Denot). log.failed) (c.go_from.ensures.log
+    ∙ ap (λ log. base_log c.args.made c.args.outcome.change.snapshot log) (c.commit.ensures.rest.log ∙ c.make_room.ensures.rest.log))
+    ∙ c.requires.base.alive
 
 pub take_over-requires-clause-end : goal.take_over-requires-clause-end
 take_over-requires-clause-end g c =
-    subst (λ (log : LogState g.row.M-Body.Denot g.row.M.Denot). IsAtEnd log) (sym (c.commit.ensures.rest.log
-    ∙ c.make_room.ensures.rest.log))
-    (c.requires.sound.serves c.requires.serving).ahead
+    ap (λ (log : LogState g.row.M-Body.Denot g.row.M.Denot). log.ahead) (c.go_from.ensures.log
+    ∙ ap (λ log. base_log c.args.made c.args.outcome.change.snapshot log) (c.commit.ensures.rest.log ∙ c.make_room.ensures.rest.log))
+    ∙ c.requires.base.ahead
 
 pub returns-in-Err-clause-sound : goal.returns-in-Err-clause-sound
 returns-in-Err-clause-sound g c =
@@ -93,8 +112,8 @@ returns-in-Err-clause-did g c =
       rest = c.make_room.ensures.rest;
     } in
     let may : may_advance c.args.seat.now ≡ true = search rules in
-    rw c.spoil_at.ensures (fallen _ _ _ _ _ _ c.args.outcome c.args.parts.now c.make_room.new.self c.commit.new.self c.args.seat.now
-    c.in-Err.fault may
+    rw c.spoil_at.ensures (fallen _ _ _ _ _ _ (base_log c.args.made c.args.outcome.change.snapshot c.args.parts.now.log)
+    c.args.outcome c.args.parts.now c.make_room.new.self c.commit.new.self c.args.seat.now c.in-Err.fault may
     (c.requires.sound.serves c.requires.serving) room c.commit.ensures.rest c.in-Err.ensures.falls)
 
 pub returns-in-Ok-commit-clause-sound : goal.returns-in-Ok-commit-clause-sound
@@ -106,14 +125,18 @@ returns-in-Ok-commit-clause-sound g c =
       rest = c.make_room.ensures.rest;
     } in
     let serving = c.requires.sound.serves c.requires.serving in
-    let is_ready : Ready g.K.Keeper.holds g.K.Keeper.is_failed c.args.outcome c.args.parts.now c.commit.new.self =
-    ready g.K.Keeper.holds g.K.Keeper.is_failed c.args.outcome c.args.parts.now c.make_room.new.self c.commit.new.self room
+    let base = base_log c.args.made c.args.outcome.change.snapshot c.args.parts.now.log in
+    let is_ready : Ready g.K.Keeper.holds g.K.Keeper.is_failed base c.args.outcome c.args.parts.now c.go_from.new.self =
+    based g.K.Keeper.holds g.K.Keeper.is_failed base c.args.outcome c.args.parts.now c.commit.new.self c.go_from.new.self
+    (ready g.K.Keeper.holds g.K.Keeper.is_failed c.args.outcome c.args.parts.now c.make_room.new.self c.commit.new.self room
     c.commit.ensures.rest serving.held
-    serving.whole c.in-Ok-commit.ensures.ok c.in-Ok-commit.ensures.whole in
+    serving.whole c.in-Ok-commit.ensures.ok c.in-Ok-commit.ensures.whole) c.go_from.ensures.rest
+    (c.go_from.ensures.log
+    ∙ ap (λ log. base_log c.args.made c.args.outcome.change.snapshot log) (c.commit.ensures.rest.log ∙ c.make_room.ensures.rest.log)) in
     sound_on g.M.Machine.steps g.M.Machine.content g.K.Keeper.holds g.K.Keeper.finds
     g.K.Keeper.failures g.K.Keeper.is_failed
-    g.M.Body.Body.same c.args.outcome c.args.parts.now c.commit.new.self c.take_over.new.self c.args.seat.now c.requires.sound serving
-    is_ready c.requires.plain
+    g.M.Body.Body.same base c.args.outcome c.args.parts.now c.go_from.new.self c.take_over.new.self c.args.seat.now c.requires.sound serving
+    is_ready c.requires.base
     c.take_over.ensures.who c.take_over.result c.take_over.ensures.follows
 
 pub returns-in-Ok-commit-clause-seated : goal.returns-in-Ok-commit-clause-seated
@@ -125,13 +148,17 @@ returns-in-Ok-commit-clause-seated g c =
       rest = c.make_room.ensures.rest;
     } in
     let serving = c.requires.sound.serves c.requires.serving in
-    let is_ready : Ready g.K.Keeper.holds g.K.Keeper.is_failed c.args.outcome c.args.parts.now c.commit.new.self =
-    ready g.K.Keeper.holds g.K.Keeper.is_failed c.args.outcome c.args.parts.now c.make_room.new.self c.commit.new.self room
+    let base = base_log c.args.made c.args.outcome.change.snapshot c.args.parts.now.log in
+    let is_ready : Ready g.K.Keeper.holds g.K.Keeper.is_failed base c.args.outcome c.args.parts.now c.go_from.new.self =
+    based g.K.Keeper.holds g.K.Keeper.is_failed base c.args.outcome c.args.parts.now c.commit.new.self c.go_from.new.self
+    (ready g.K.Keeper.holds g.K.Keeper.is_failed c.args.outcome c.args.parts.now c.make_room.new.self c.commit.new.self room
     c.commit.ensures.rest serving.held
-    serving.whole c.in-Ok-commit.ensures.ok c.in-Ok-commit.ensures.whole in
+    serving.whole c.in-Ok-commit.ensures.ok c.in-Ok-commit.ensures.whole) c.go_from.ensures.rest
+    (c.go_from.ensures.log
+    ∙ ap (λ log. base_log c.args.made c.args.outcome.change.snapshot log) (c.commit.ensures.rest.log ∙ c.make_room.ensures.rest.log)) in
     seated_on g.M.Body.Body.same g.M.Machine.steps g.M.Machine.content g.K.Keeper.holds
     g.K.Keeper.is_failed
-    c.args.outcome c.args.parts.now c.commit.new.self c.take_over.new.self c.args.seat.now c.step.new.seat c.step.ensures.advanced
+    base c.args.outcome c.args.parts.now c.go_from.new.self c.take_over.new.self c.args.seat.now c.step.new.seat c.step.ensures.advanced
     c.requires.sound is_ready
     serving.committed c.take_over.ensures.who c.take_over.result c.take_over.ensures.follows c.requires.seated
 
@@ -144,13 +171,17 @@ returns-in-Ok-commit-clause-did g c =
       rest = c.make_room.ensures.rest;
     } in
     let serving = c.requires.sound.serves c.requires.serving in
-    let is_ready : Ready g.K.Keeper.holds g.K.Keeper.is_failed c.args.outcome c.args.parts.now c.commit.new.self =
-    ready g.K.Keeper.holds g.K.Keeper.is_failed c.args.outcome c.args.parts.now c.make_room.new.self c.commit.new.self room
+    let base = base_log c.args.made c.args.outcome.change.snapshot c.args.parts.now.log in
+    let is_ready : Ready g.K.Keeper.holds g.K.Keeper.is_failed base c.args.outcome c.args.parts.now c.go_from.new.self =
+    based g.K.Keeper.holds g.K.Keeper.is_failed base c.args.outcome c.args.parts.now c.commit.new.self c.go_from.new.self
+    (ready g.K.Keeper.holds g.K.Keeper.is_failed c.args.outcome c.args.parts.now c.make_room.new.self c.commit.new.self room
     c.commit.ensures.rest serving.held
-    serving.whole c.in-Ok-commit.ensures.ok c.in-Ok-commit.ensures.whole in
+    serving.whole c.in-Ok-commit.ensures.ok c.in-Ok-commit.ensures.whole) c.go_from.ensures.rest
+    (c.go_from.ensures.log
+    ∙ ap (λ log. base_log c.args.made c.args.outcome.change.snapshot log) (c.commit.ensures.rest.log ∙ c.make_room.ensures.rest.log)) in
     let may : may_advance c.args.seat.now ≡ true = search rules in
     carried_on g.M.Machine.steps g.M.Machine.content g.K.Keeper.holds g.K.Keeper.finds
     g.K.Keeper.failures g.K.Keeper.is_failed
-    g.M.Body.Body.same c.args.outcome c.args.parts.now c.commit.new.self c.take_over.new.self c.args.seat.now c.step.new.seat
+    g.M.Body.Body.same base c.args.outcome c.args.parts.now c.go_from.new.self c.take_over.new.self c.args.seat.now c.step.new.seat
     c.step.ensures.advanced may
     c.requires.sound serving is_ready c.requires.serving c.take_over.result c.take_over.ensures.follows

@@ -5,36 +5,33 @@ use Rattle.paxos_node.specs.Adopting.{Planned}
 use Rattle.paxos_node.specs.Events.{outcome_of, is_round_refused, is_full_refused}
 use Rattle.paxos_node.specs.declared.fault.NodeFault.TheVariants as node_fault
 use Rattle.node_actor.proofs.Seating.{seated_spoiled}
-use Rattle.node_actor.proofs.Viewing.{acts_of, disagree_acts, memory_acts, follows_plan, shorts, told_disagree, told_memory}
-use Rattle.node_actor.proofs.Plain.{plain_plan}
+use Rattle.node_actor.proofs.Viewing.{acts_on, disagree_acts, memory_acts, follows_plan, shorts, told_disagree, told_memory}
+use Rattle.node_actor.proofs.Bringing.{from_packet}
 use Rattle.node_actor.proofs.event.make_event.Goals as goal
 
-pub carry_out-requires-clause-plan : goal.carry_out-requires-clause-plan
-carry_out-requires-clause-plan g c =
+pub carry_on-requires-clause-plan : goal.carry_on-requires-clause-plan
+carry_on-requires-clause-plan g c =
     let fresh : c.args.parts.now.spoiled ≡ false = search rules in
     record { event = c.args.event.now; plans = c.requires.own fresh; planned = c.in-Ok.ensures.planned.3 }
 
-pub carry_out-requires-clause-follows : goal.carry_out-requires-clause-follows
-carry_out-requires-clause-follows g c =
+pub carry_on-requires-clause-follows : goal.carry_on-requires-clause-follows
+carry_on-requires-clause-follows g c =
     let fresh : c.args.parts.now.spoiled ≡ false = search rules in
     follows_plan g.M.Body.Body.same c.args.event.now c.in-Ok.outcome c.args.parts.now c.args.seat.now (c.requires.own fresh)
     c.in-Ok.ensures.planned.3
     c.requires.seated c.requires.received
 
-pub carry_out-requires-clause-plain : goal.carry_out-requires-clause-plain
-carry_out-requires-clause-plain g c =
-    let fresh : c.args.parts.now.spoiled ≡ false = search rules in
-    plain_plan g.M.Body.Body.same c.args.parts.now.node.me c.args.parts.now.node.members c.args.event.now c.args.parts.now.node.state
-    c.in-Ok.outcome (c.requires.sound.serves fresh).up (c.requires.own fresh) c.requires.plain c.in-Ok.ensures.planned.3
-
 pub returns-in-Ok-clause-acts : goal.returns-in-Ok-clause-acts
 returns-in-Ok-clause-acts g c = λ view reach.
     let fresh : c.args.parts.now.spoiled ≡ false = search rules in
     let p = c.in-Ok.ensures.planned in
-    acts_of _ _ _ _ _ _ _ c.args.event.now c.in-Ok.outcome c.args.parts.now c.carry_out.new.parts view c.args.seat.now c.carry_out.new.seat
+    let serving = c.requires.sound.serves fresh in
+    acts_on _ _ _ _ _ _ _ _ c.args.event.now c.in-Ok.outcome c.args.parts.now c.carry_on.new.parts view c.args.seat.now c.carry_on.new.seat
     c.requires.sound
-    c.requires.seated c.carry_out.ensures.seated reach (c.requires.own fresh) p.3 p.0 p.1 fresh
-    (shorts _ _ _ c.args.parts.now c.requires.sound c.limits.ensures) c.carry_out.result c.carry_out.ensures.did
+    c.requires.seated c.carry_on.ensures.seated reach (c.requires.own fresh) p.3 p.0 p.1 serving
+    (from_packet g.M.Body.Body.same c.args.parts.now.node.me c.args.parts.now.node.members c.args.event.now c.args.parts.now.node.state
+    c.in-Ok.outcome serving.up (c.requires.own fresh) c.requires.other p.3) fresh
+    (shorts _ _ _ c.args.parts.now c.requires.sound c.limits.ensures) c.carry_on.result c.carry_on.ensures.did
 
 pub returns-in-Err-Disagree-clause-seated : goal.returns-in-Err-Disagree-clause-seated
 returns-in-Err-Disagree-clause-seated g c =
@@ -49,13 +46,13 @@ returns-in-Err-Disagree-clause-acts g c = λ view reach.
     (outcome_of g.M.Body.Body.same c.args.parts.now.node.members c.args.event.now c.args.parts.now.node.state).disagrees
     (λ outcome. Planned g.M.Body.Body.same c.args.parts.now.node.members c.args.event.now c.args.parts.now.node.state outcome)
     c.in-Err-Disagree.field-0 fault c.in-Err-Disagree.ensures.planned in
-    rw c.spoil.ensures (disagree_acts g.M.Body.Body.same _ _ _ _ _ g.K.Keeper.is_failed c.args.event.now c.args.parts.now view
+    rw c.spoil.ensures (disagree_acts g.M.Body.Body.same _ _ _ _ _ _ g.K.Keeper.is_failed c.args.event.now c.args.parts.now view
     c.args.seat.now c.requires.seated reach fresh
     (c.requires.sound.serves fresh) (seated_spoiled g.M.Body.Body.same c.args.parts.now c.args.seat.now c.requires.seated) refused)
 
 pub returns-in-Err-Memory-clause-seated : goal.returns-in-Err-Memory-clause-seated
 returns-in-Err-Memory-clause-seated g c =
-    rw c.spoil-in-Err-Memory.ensures (seated_spoiled g.M.Body.Body.same c.args.parts.now c.args.seat.now c.requires.seated)
+    rw c.stop.ensures.spoiled (seated_spoiled g.M.Body.Body.same c.args.parts.now c.args.seat.now c.requires.seated)
 
 pub returns-in-Err-Memory-clause-acts : goal.returns-in-Err-Memory-clause-acts
 returns-in-Err-Memory-clause-acts g c = λ view reach.
@@ -67,13 +64,13 @@ returns-in-Err-Memory-clause-acts g c = λ view reach.
     (λ outcome. Planned g.M.Body.Body.same c.args.parts.now.node.members c.args.event.now c.args.parts.now.node.state outcome)
     c.in-Err-Memory.field-0 fault c.in-Err-Memory.ensures.planned in
     let agrees = c.in-Err-Memory.ensures.memory (ap Err fault) in
-    let told = memory_acts g.M.Body.Body.same g.M.Machine.steps g.M.Machine.content g.K.Keeper.holds
+    let told = memory_acts g.M.Body.Body.same g.M.Machine.steps g.M.Machine.content g.M.Machine.loaded g.K.Keeper.holds
     g.K.Keeper.finds g.K.Keeper.failures g.K.Keeper.is_failed c.args.event.now c.args.parts.now view c.args.seat.now c.requires.seated reach
     fresh (c.requires.sound.serves fresh) (seated_spoiled g.M.Body.Body.same c.args.parts.now c.args.seat.now c.requires.seated) refused
     agrees in
-    subst (λ p. Acts g.M.Body.Body.same g.M.Machine.steps g.M.Machine.content
+    subst (λ p. Acts g.M.Body.Body.same g.M.Machine.steps g.M.Machine.content g.M.Machine.loaded
     g.K.Keeper.holds g.K.Keeper.finds g.K.Keeper.failures (Some c.args.event.now) (acting c.args.parts.now view)
-    (acting p c.args.seat.now) view (Err c.fault_without_plan-fault.result)) (sym c.spoil-in-Err-Memory.ensures)
-    (subst (λ f. Acts g.M.Body.Body.same g.M.Machine.steps g.M.Machine.content
+    (acting p c.args.seat.now) view (Err c.stop.result)) (sym c.stop.ensures.spoiled)
+    (subst (λ f. Acts g.M.Body.Body.same g.M.Machine.steps g.M.Machine.content g.M.Machine.loaded
     g.K.Keeper.holds g.K.Keeper.finds g.K.Keeper.failures (Some c.args.event.now) (acting c.args.parts.now view)
-    (acting (record c.args.parts.now { spoiled = true }) c.args.seat.now) view (Err f)) (sym c.fault_without_plan-fault.ensures) told)
+    (acting (record c.args.parts.now { spoiled = true }) c.args.seat.now) view (Err f)) (sym c.stop.ensures.fault) told)

@@ -89,7 +89,7 @@ returns-in-None-clause-turns g c =
     c.fetch_round.new.seat.part)
     members c.in-None.ensures.fetches in
     let fresh : c.send_waiting-posted.new.parts.spoiled ≡ false = c.send_waiting-posted.ensures.posts.beside.only.spoiled ∙ c.requires.serving in
-    turns g.M.Body.Body.same g.M.Machine.steps g.M.Machine.content g.K.Keeper.holds
+    turns g.M.Body.Body.same g.M.Machine.steps g.M.Machine.content g.M.Machine.loaded g.K.Keeper.holds
     g.K.Keeper.finds g.K.Keeper.failures c.args.last.now
     (record { from = None; heard = None; posted = c.send_waiting-posted.result })
     c.args.parts.now c.send_waiting-posted.new.parts c.send_waiting-posted.new.parts c.args.seat.now
@@ -113,7 +113,7 @@ returns-in-Some-clause-turns g c =
     c.fetch_round.new.seat.part)
     members c.in-Some.ensures.fetches in
     let fresh : c.send_waiting-posted.new.parts.spoiled ≡ false = c.send_waiting-posted.ensures.posts.beside.only.spoiled ∙ c.requires.serving in
-    turns g.M.Body.Body.same g.M.Machine.steps g.M.Machine.content g.K.Keeper.holds
+    turns g.M.Body.Body.same g.M.Machine.steps g.M.Machine.content g.M.Machine.loaded g.K.Keeper.holds
     g.K.Keeper.finds g.K.Keeper.failures c.args.last.now
     (record { from = Some c.in-Some.from; heard = Some c.heard_in-heard.result; posted = c.send_waiting-posted.result })
     c.args.parts.now c.send_waiting-posted.new.parts c.deliver.new.parts c.args.seat.now

@@ -1,4 +1,4 @@
-use Rattle.std.proofs.Common.{◌≡◌, ◌∙◌, None, ap, sym, subst}
+use Rattle.std.proofs.Common.{sym, subst}
 use Rattle.node_actor.specs.Actor.{Acting}
 use Rattle.node_actor.specs.Views.{StandsFor}
 use Rattle.node_actor.proofs.Leaving.{shown_front}
@@ -8,8 +8,3 @@ pub returns-clause-front : goal.returns-clause-front
 returns-clause-front g c = λ view stands.
     rw c.log.ensures (shown_front _ _ _ c.self.inside.last c.self.inside.parts c.self.inside.seat view c.self.invariant.0
     (subst (λ (a : Acting g.row.M-Body.Denot g.row.M.Denot g.row.K.Denot). StandsFor a view) (sym c.self.view_is) stands))
-
-pub returns-clause-plain : goal.returns-clause-plain
-returns-clause-plain g c = λ fresh.
-    subst (λ (a : Acting g.row.M-Body.Denot g.row.M.Denot g.row.K.Denot). a.node.state.rows.snapshot ≡ None) c.self.view_is
-    (c.self.invariant.0.serves (ap (λ (a : Acting g.row.M-Body.Denot g.row.M.Denot g.row.K.Denot). a.spoiled) c.self.view_is ∙ fresh)).plain

@@ -1,5 +1,4 @@
 use Rattle.std.proofs.Common.{◌≡◌, ◌<◌, true, ap, refl, arith, rules, lt-ltb}
-use Rattle.std.specs.Prelude.{nat_lt}
 use Rattle.std.proofs.lemmas.Bool.{and_from, eq-eqb}
 use Rattle.node_actor.specs.Actor.{Acting, acting}
 use Rattle.node_actor.specs.Calls.{take_event}
@@ -9,7 +8,7 @@ use Rattle.node_actor.proofs.actor.Actor.take.Goals as goal
 
 pub returns-then-number-eq0-clause-acts : goal.returns-then-number-eq0-clause-acts
 returns-then-number-eq0-clause-acts g c =
-    acts_passed _ _ _ _ _ _ (λ me members. take_event me c.args.number c.args.body) c.self.inside.last c.self.inside.parts c.self.inside.seat
+    acts_passed _ _ _ _ _ _ _ (λ me members. take_event me c.args.number c.args.body) c.self.inside.last c.self.inside.parts c.self.inside.seat
     c.args.self.now
     c.pass.result
     (rw c.if-number-eq0.true refl) c.self.view_is c.pass.ensures.acts
