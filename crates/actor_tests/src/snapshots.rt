@@ -8,7 +8,7 @@ ghost use Rattle.paxos_node.specs.Events.{owner, possible};
 ghost use Rattle.paxos_node.specs.Plans.{is_planned};
 ghost use Rattle.paxos_node.specs.declared.event.Event.TheVariants.{Deliver};
 ghost use Rattle.paxos_packets.specs.declared.packet.Packet.{Packet};
-ghost use Rattle.std.specs.Prelude.{◌≡◌, ◌≤◌, ℕ, All, IfOk, IfSome, true};
+ghost use Rattle.std.specs.Prelude.{false, ◌≡◌, ◌≤◌, ℕ, All, IfOk, IfSome, true};
 
 use crate::actors::last_seat;
 use crate::carrying::number;
