@@ -57,7 +57,8 @@ impl<B, C: Coder<B>, S: Alter + Drop> Drop for SqlKeeper<B, C, S> {
 
 impl<B: Body, C: Coder<B>, S: Alter> SqlKeeper<B, C, S> {
     /// Opens a keeper over the database of this connection. Makes the three tables if the database is empty, and adds the third to those of
-    /// version 1, without a snapshot, if `meta` has one row of that version: each in one transaction. It judges nothing else; `load` does.
+    /// version 1, without a snapshot, if `meta` has one row of that version with numbers in range: each in one transaction. It judges nothing
+    /// else; `load` does.
     /// SQLite's own open has read each page, so opening takes time linear in the file as a whole; this call itself takes none.
     ///
     /// After a fault, `Store` or `Memory`, the connection is handed back, and the database is as it was, or has the three tables, and the rows
