@@ -3,6 +3,7 @@
 // no other way out drops what a test has.
 use crate::check::Check;
 use crate::clients::{Client, connect, has_ended, is_closed, is_told, leave, send};
+use crate::floors::{AtFloor, happen_at_floor};
 use crate::rounds::{NODE, comes, gives, next_letter, quiet};
 use actor_run::{Feed, Gate};
 use paxos_packets::{Members, Transport};
@@ -20,7 +21,7 @@ use std::time::Clock;
 use test_checks::{check, check_eq};
 use wamp_messages::{Read as ReadResult, read};
 
-const BOOT: u64 = 5;
+pub const BOOT: u64 = 5;
 
 const KEY: u64 = 9;
 
@@ -314,7 +315,7 @@ fn ticks_behind<F: Feed<Act, Say>, G: Gate>(
 
 // What happens at a node.
 #[derive(Clone, Copy)]
-enum Happens {
+pub enum Happens {
     // Two clients do what they do, and are answered.
     Acts,
     // A client takes nothing and is closed; then the node begins its next boot, and one more comes.
@@ -327,6 +328,8 @@ enum Happens {
     Ticks,
     // Time passes while packets wait for another node.
     TicksBehind,
+    // Its log is long, or others wait for it or go on without it.
+    AtFloor(AtFloor),
 }
 
 // Two clients arrive, and do so.
@@ -439,6 +442,7 @@ fn happen<R: Abort + Net<Listener = TcpListener, Stream = TcpStream>>(
         Happens::Waits => three_wait(rt, alloc, gate, feed, lobby, arrivals),
         Happens::Ticks => ticks(rt, alloc, gate, feed, node == 1),
         Happens::TicksBehind => ticks_behind(rt, alloc, gate, feed),
+        Happens::AtFloor(what) => happen_at_floor(rt, alloc, gate, feed, lobby, arrivals, what),
     }
 }
 
@@ -493,7 +497,7 @@ fn at_home<'a, R: Wait + Clock + Abort + Net<Listener = TcpListener, Stream = Tc
 }
 
 // This happens at a node of three.
-fn at_node<R: Wait + Clock + Abort + Net<Listener = TcpListener, Stream = TcpStream>>(
+pub fn at_node<R: Wait + Clock + Abort + Net<Listener = TcpListener, Stream = TcpStream>>(
     rt: &R,
     alloc: Global,
     node: u8,

@@ -11,6 +11,8 @@ mod draining;
 #[cfg(test)]
 mod feeding;
 #[cfg(test)]
+mod floors;
+#[cfg(test)]
 mod greeting;
 #[cfg(test)]
 mod house;

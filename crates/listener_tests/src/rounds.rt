@@ -47,7 +47,7 @@ fn letters_of(event: &Event<Act>) -> (Option<char>, char) {
         Event::Tick { .. } => (None, 't'),
         Event::Start { .. } => (None, 'b'),
         Event::Suspect { .. } => (None, 's'),
-        Event::Cut { .. } => (None, '?'),
+        Event::Cut { .. } => (None, 'c'),
         Event::Deliver { .. } | Event::Crash { .. } | Event::Restart { .. } => (None, '?'),
     }
 }
@@ -136,4 +136,26 @@ pub fn comes<F: Feed<Act, Say>, G: Gate>(
     check_eq!(rt; letters.as_str(), letter);
     drop(letters);
     count
+}
+
+// Ticks come, and then an event with this letter. Returns how many ticks there were.
+pub fn ticks_before<F: Feed<Act, Say>, G: Gate>(
+    rt: &impl Abort,
+    alloc: Global,
+    gate: &G,
+    feed: &mut F,
+    seen: &Seen,
+    letter: &str,
+) -> u32 {
+    let mut letters = String::new(alloc);
+    for count in 0..1000 {
+        letters.clear();
+        first_event(rt, gate, feed, seen, &mut letters);
+        if letters.as_str() == letter {
+            drop(letters);
+            return count;
+        }
+        check_eq!(rt; letters.as_str(), "t");
+    }
+    panic!(rt; "only ticks came")
 }

@@ -120,29 +120,42 @@ fn a_node_that_crawls_holds_no_tick_back_for_longer_than_512_beats(rt: HostRunti
     }
 }
 
-// From which slot on a node asks, of one whose log is how long, if it asks; at which beat; and whether acts are held back then.
-const GAINING: &[(Option<(u64, u64)>, u64, bool)] = &[
+// From which slot on a node asks, of one whose log is how long, and is given by a snapshot up to where.
+type Asks = (u64, u64, u64);
+
+// What a node asks, if it asks; at which beat; and whether acts are held back then.
+const GAINING: &[(Option<Asks>, u64, bool)] = &[
     (None, 0, false),
-    (Some((1, 1024)), 5, false),
-    (Some((101, 8292)), 10, true),
+    (Some((1, 1024, 0)), 5, false),
+    (Some((101, 8292, 0)), 10, true),
     // Acts are given in one beat of four.
     (None, 11, true),
     (None, 12, false),
     (None, 13, true),
     (None, 521, true),
-    (Some((201, 9392)), 521, true),
+    (Some((201, 9392, 0)), 521, true),
     (None, 522, false),
     // It lacks 7,169 of 8,192, and then an eighth less.
-    (Some((1101, 8269)), 530, false),
-    (Some((1101, 8268)), 531, true),
+    (Some((1101, 8269, 0)), 530, false),
+    (Some((1101, 8268, 0)), 531, true),
     (None, 1042, true),
     (None, 1043, false),
     // Its log begins anew.
-    (Some((1, 9000)), 1050, true),
-    (Some((7977, 9000)), 1051, false),
-    (Some((7976, 9000)), 1053, true),
+    (Some((1, 9000, 0)), 1050, true),
+    (Some((7977, 9000, 0)), 1051, false),
+    (Some((7976, 9000, 0)), 1053, true),
     (None, 1563, true),
     (None, 1565, false),
+    // It lacks what comes after the snapshot, and then what the snapshot gives: it waits for that.
+    (Some((5001, 20_000, 5000)), 1570, true),
+    (None, 1571, true),
+    (Some((5001, 20_000, 5001)), 1573, false),
+    (Some((5001, 30_000, 28_000)), 1575, false),
+    // It has taken the snapshot, and is counted from there.
+    (Some((28_001, 29_024, 28_000)), 1577, false),
+    (Some((28_001, 30_000, 28_000)), 1578, true),
+    (None, 2089, true),
+    (None, 2090, false),
 ];
 
 #[test]
@@ -150,8 +163,8 @@ fn acts_wait_512_beats_after_a_node_that_lacks_many_has_gained(rt: HostRuntime) 
     let mut gaining = Gaining::new();
     for row in GAINING {
         let (asks, beat, holds) = *row;
-        if let Some((first, applied)) = asks {
-            gaining.asks(beat, first, applied);
+        if let Some((first, applied, floor)) = asks {
+            gaining.asks(beat, first, applied, floor);
         }
         check_eq!(&rt; gaining.holds(beat), holds, *row);
     }

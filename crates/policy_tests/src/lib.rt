@@ -13,6 +13,8 @@ mod commits;
 #[cfg(test)]
 mod counting;
 #[cfg(test)]
+mod cutting;
+#[cfg(test)]
 mod draws;
 #[cfg(test)]
 mod electing;

@@ -496,6 +496,12 @@ gives_other node event sources given none saw =
     subst (Tells sources)
     (sym (asked_more node given event ∙ ap (λ l. asked_in node given ++ l) none ∙ append-nil (asked_in node given))) saw
 
+pub gives_others : (node : ℕ) (events : List (Event Act)) (sources : Sources) (given : List (Event Act)) → asked_in node events ≡ []
+    → Saw node sources given → Saw node sources (given ++ events)
+gives_others node events sources given none saw =
+    subst (Tells sources)
+    (sym (flat_map-append (asked_by node) given events ∙ ap (λ l. asked_in node given ++ l) none ∙ append-nil (asked_in node given))) saw
+
 -- what was said of a node and its sources is said of the same ones
 pub carried : (n m : ℕ) (x y : Sources) (given : List (Event Act)) → n ≡ m → x ≡ y → Saw n x given → Saw m y given
 carried n m x y given node sources saw =

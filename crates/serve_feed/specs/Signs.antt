@@ -1,5 +1,5 @@
 -- What a turn of a node shows of the cluster's work (docs/THREADS.md). Nothing that is claimed of a cluster rests on it.
-use Rattle.std.specs.Prelude.{ℕ, ◌^◌, ◌-◌, min, nat_lt, ◌&&◌, not, Bool, true, false, Option, Some, None, if◌then◌else◌}
+use Rattle.std.specs.Prelude.{ℕ, ◌^◌, ◌-◌, min, nat_lt, ◌&&◌, not, Bool, false, Option, Some, None, if◌then◌else◌}
 use Rattle.paxos_packets.specs.Ballot.{below, same_ballot}
 use Rattle.paxos_packets.specs.declared.ballot.Ballot.{Ballot}
 use Rattle.node_actor.specs.declared.heard.Heard.{Heard}
@@ -47,6 +47,25 @@ turn_of seen before beats = record {
   is_pending = seen.pending;
   beats = beats;
 }
+
+-- where a snapshot ends that came in the turn, if one came
+
+abbrev pub ends_at : Heard → Option ℕ
+ends_at (heard.Prepare ballot) = None
+ends_at (heard.Ballot ballot) = None
+ends_at (heard.Refusal ballot other) = None
+ends_at heard.Entries = None
+ends_at heard.Learned = None
+ends_at (heard.Ask first) = None
+ends_at (heard.Snapshot floor) = Some floor
+
+abbrev pub offered_in : Option Heard → Option ℕ
+offered_in None = None
+offered_in (Some packet) = ends_at packet
+
+-- how many entries the node has applied above its floor
+abbrev pub entries_above : Seen → ℕ
+entries_above seen = seen.applied - seen.floor
 
 -- whether a node lacks entries: it does not lead, and has voted in more than 4,096 slots after its log
 abbrev pub lacks_entries : Seen → Bool

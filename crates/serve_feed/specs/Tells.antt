@@ -3,7 +3,6 @@
 -- if its Connect was given.
 use Rattle.std.specs.Prelude.{◌≡◌, ◌<◌, ◌≤◌, ◌==◌, ℕ, Bool, true, false, List, [], ◌∷◌, ◌++◌, Option, None, Some, slice_get, if◌then◌else◌, ⊤}
 use Rattle.std.specs.List.{All, AllPairs, flat_map, list_any, remove}
-use Rattle.wamp_message_types.specs.declared.read_result.Read.{Read}
 use Rattle.realm_acts.specs.declared.act.Act.{Act}
 use Rattle.realm_acts.specs.declared.act.Act.TheVariants as done
 use Rattle.client_listener.specs.declared.items.FromClient.{FromClient}

@@ -2,7 +2,7 @@
 ghost use Rattle.std.specs.Prelude.{◌≡◌, ◌++◌, [], ℕ, List};
 ghost use Rattle.std.specs.Option.{option_to_list};
 ghost use Rattle.paxos_node.specs.declared.event.Event.{Event};
-ghost use Rattle.actor_run.specs.Events.{asked_by};
+ghost use Rattle.actor_run.specs.Events.{asked_by, asked_in};
 ghost use Rattle.realm_acts.specs.declared.act.Act.{Act};
 ghost use Rattle.realm_machine.specs.declared.sayings.say.Say.{Say};
 ghost use Rattle.serve_feed.specs.Tells.{Tells};
@@ -15,7 +15,7 @@ use crate::home::Home;
 use crate::lanes::Lanes;
 use crate::pace::Pace;
 use crate::peers::Peers;
-use crate::signs::{lacks_entries, turn_of};
+use crate::signs::{entries_above, lacks_entries, offered_in, turn_of};
 use crate::waking::{say_waits, wake_peers};
 use actor_run::{Feed, Seen};
 use client_listener::ToClient;
@@ -25,7 +25,7 @@ use realm_acts::Act;
 use realm_machine::{Out, Say};
 use rtrb::Consumer;
 use serve_connections::{Arrival, Lobby};
-use serve_policy::{Admission, Commits, Draws, Due, Sign, Ticks};
+use serve_policy::{Admission, Behind, Commits, Draws, Due, Sign, Ticks, is_long};
 use std::alloc::Global;
 use std::sync::Arc;
 
@@ -60,6 +60,7 @@ struct Boot {
     admission: Admission,
     commits: Commits,
     peers: Peers,
+    behind: Behind,
     // What the node had promised after the turn that was counted last.
     promised: Option<Ballot>,
 }
@@ -74,6 +75,7 @@ impl Boot {
             admission: Admission::new(),
             commits: Commits::new(),
             peers: Peers::new(members),
+            behind: Behind::new(),
             promised: None,
         }
     }
@@ -89,6 +91,9 @@ struct Round {
     // How many acts were given since, and how many may be before the turn.
     given: u64,
     most: u64,
+    // Whether the node's log is cut in this round, in which nothing else is given then, and whether the cut was given.
+    is_cutting: bool,
+    is_cut: bool,
     // Whether something happened since.
     is_busy: bool,
     // Whether a tick while nothing moved was all that happened since.
@@ -149,6 +154,8 @@ impl<'a> ClientFeed<'a> {
                 commits: 0,
                 given: 0,
                 most: u64::MAX,
+                is_cutting: false,
+                is_cut: false,
                 is_busy: true,
                 is_ticked: false,
                 may_be_due: true,
@@ -177,7 +184,10 @@ impl<'a> ClientFeed<'a> {
     {
         self.lanes.end_all(self.lobby);
         self.boot = Boot::new(self.key, self.node, self.members, boot, is_first);
+        self.pace.begin_boot();
         self.round.commits = 0;
+        self.round.is_cutting = false;
+        self.round.is_cut = false;
         self.round.may_be_due = true;
         self.round.is_busy = true;
         self.lanes.stir();
@@ -192,6 +202,12 @@ impl<'a> ClientFeed<'a> {
     /// Returns how many connections the node has, of those that it has seen.
     pub fn connections(&self) -> usize {
         self.lanes.count()
+    }
+
+    /// Returns whether the node is behind for good, so that its gate lets no turn pass before its next boot: its log ends before the other
+    /// nodes' floors, and it may not take their snapshots in this boot.
+    pub fn is_behind(&self) -> bool {
+        self.pace.is_behind()
     }
 
     /// Returns why the node holds its clients' acts back, if it does.
@@ -229,6 +245,7 @@ impl<'a> ClientFeed<'a> {
         let may_wait = self.round.is_ticked && !self.boot.peers.has_waiting();
         self.round.is_ticked = false;
         self.watch(seen);
+        self.watch_log(seen);
         let moved = wake_peers(self.node, self.members, self.lobbies, seen, may_wait);
         self.take_stirred();
         self.judge(seen, moved);
@@ -297,13 +314,16 @@ impl<'a> ClientFeed<'a> {
         is_woken
     }
 
-    // Notes how long the commits of the last round took.
+    // Notes how long the commits of the last round took. One with a cut says nothing of others.
     fn note_commits(&mut self, seen: &Seen)
         ensures node { self.new.node ≡ self.old.node }
         ensures sources { self.new.lanes.sources ≡ self.old.lanes.sources }
     {
         let commits = seen.commits.wrapping_sub(self.round.commits);
         self.round.commits = seen.commits;
+        if self.round.is_cut {
+            return;
+        }
         self.boot
             .commits
             .note(self.pace.took(), u32::try_from(commits).unwrap_or(0));
@@ -318,6 +338,22 @@ impl<'a> ClientFeed<'a> {
         let beat = self.boot.ticks.beats();
         if self.boot.peers.watch(beat, self.boot.commits.beats(), seen) {
             say_waits(self.lobby, self.members, &seen.waiting);
+        }
+    }
+
+    // Judges whether the node's log is cut in this round, and whether the node is behind for good.
+    fn watch_log(&mut self, seen: &Seen)
+        ensures node { self.new.node ≡ self.old.node }
+        ensures sources { self.new.lanes.sources ≡ self.old.lanes.sources }
+    {
+        let peers = &self.boot.peers;
+        let is_wanted = is_long(entries_above(seen), peers.most_waiting(), peers.is_owed());
+        self.round.is_cutting = self.pace.wants_cut(is_wanted);
+        self.round.is_cut = false;
+        self.boot.behind.see(seen.applied, offered_in(seen.heard));
+        let may_be_told = self.boot.peers.may_tell(seen.applied);
+        if self.boot.behind.is_for_good(may_be_told) {
+            self.pace.gives_up();
         }
     }
 
@@ -369,11 +405,31 @@ impl<'a> ClientFeed<'a> {
             Due::Tick => {
                 self.round.is_ticked = !self.pace.is_moving();
                 self.pace.ticked();
+                self.boot.behind.tick();
+                self.boot.peers.tick();
                 Event::Tick { node }
             }
             Due::Start => Event::Start { node },
             Due::Suspect(other) => Event::Suspect { node, other },
         }
+    }
+
+    // Returns the cut of this round; nothing once it was given.
+    fn cut(&mut self) -> Option<Event<Act>>
+        ensures node { self.new.node ≡ self.old.node }
+        ensures sources { self.new.lanes.sources ≡ self.old.lanes.sources }
+        ensures none { (me : ℕ) → asked_in me (option_to_list result) ≡ [] }
+    {
+        if self.round.is_cut {
+            return None;
+        }
+        self.stay();
+        self.round.is_cut = true;
+        self.pace.cuts();
+        Some(Event::Cut {
+            node: self.node,
+            snapshot: None,
+        })
     }
 
     // Returns whether the node may give acts.
@@ -451,6 +507,9 @@ impl Feed<Act, Say> for ClientFeed<'_> {
             → Saw self.new.node self.new.lanes.sources (given ++ option_to_list result) }
     {
         self.see(&seen);
+        if self.round.is_cutting {
+            return self.cut();
+        }
         let may_tick = self.may_tick(&seen);
         let commit = self.boot.commits.beats();
         if self.round.may_be_due

@@ -2,7 +2,9 @@
 use crate::home::Home;
 use actor_run::Gate;
 use serve_connections::Lobby;
-use serve_policy::{BEAT_MICROS, BEATS_A_TICK, Passed, beats_due, left_of_waits, left_to_wait};
+use serve_policy::{
+    BEAT_MICROS, BEATS_A_TICK, Passed, beats_due, left_of_waits, left_to_wait, rest_after,
+};
 use std::cell::Cell;
 use std::sync::Wait;
 use std::time::{Clock, Duration, Instant};
@@ -33,6 +35,20 @@ pub struct Pace {
     has_waited: Cell<bool>,
     // How many microseconds the last round took, 0 if rounds are not timed.
     took: Cell<u32>,
+    // How far the next cut of the node's log is.
+    cut: Cell<Cut>,
+    // Whether the node is behind for good.
+    is_behind: Cell<bool>,
+}
+
+// How far a cut of the node's log is: none is due; the log is long enough; the node has rested from the last one, too, so it may come in this
+// round; it has come in this round.
+#[derive(Clone, Copy, PartialEq, Eq)]
+enum Cut {
+    No,
+    Wanted,
+    Due,
+    Made,
 }
 
 impl Pace {
@@ -49,7 +65,15 @@ impl Pace {
             stirs: Cell::new(0),
             has_waited: Cell::new(false),
             took: Cell::new(0),
+            cut: Cell::new(Cut::No),
+            is_behind: Cell::new(false),
         }
+    }
+
+    // Begins a boot of the node: no cut is due, and it is not behind.
+    pub(crate) fn begin_boot(&self) {
+        self.cut.set(Cut::No);
+        self.is_behind.set(false);
     }
 
     // Begins a round.
@@ -127,6 +151,28 @@ impl Pace {
         }
     }
 
+    // Notes whether the node's log is long enough to be cut. Returns whether it is to be cut in this round.
+    pub(crate) fn wants_cut(&self, is_wanted: bool) -> bool {
+        let is_due = is_wanted && self.cut.get() == Cut::Due;
+        self.cut.set(if is_wanted { Cut::Wanted } else { Cut::No });
+        is_due
+    }
+
+    // Notes that the node's log is cut in this round.
+    pub(crate) fn cuts(&self) {
+        self.cut.set(Cut::Made);
+    }
+
+    // Notes that the node is behind for good: no further turn passes the gate in this boot.
+    pub(crate) fn gives_up(&self) {
+        self.is_behind.set(true);
+    }
+
+    // Returns whether the node is behind for good.
+    pub(crate) fn is_behind(&self) -> bool {
+        self.is_behind.get()
+    }
+
     // Returns whether the node has waited in vain for slow clients since the last call.
     pub(crate) fn take_waited(&self) -> bool {
         self.has_waited.replace(false)
@@ -142,7 +188,8 @@ impl Pace {
 /// each second for all clients together.
 ///
 /// A round costs some loads, and each 64th one a look at the clock; where the node's store is files two looks, since the rounds with a
-/// commit are timed. If the clock cannot be read a tick is always due.
+/// commit are timed, and one while the log is long enough to be cut. If the clock cannot be read a tick is always due, and so is a cut of such
+/// a log. Once the feed has found the node behind for good no turn passes until the next boot.
 #[derive(Drop)]
 pub struct Paced<'a, R: Wait + Clock, G: Gate> {
     rt: &'a R,
@@ -158,6 +205,8 @@ pub struct Paced<'a, R: Wait + Clock, G: Gate> {
     // Whether rounds are timed, and when the present one began.
     is_timed: bool,
     began: Cell<Option<Instant>>,
+    // From when on the node's log may be cut again, if it was cut.
+    next_cut: Cell<Option<Instant>>,
 }
 
 impl<'a, R: Wait + Clock, G: Gate> Paced<'a, R, G> {
@@ -175,27 +224,58 @@ impl<'a, R: Wait + Clock, G: Gate> Paced<'a, R, G> {
             wait_ended: Cell::new(None),
             is_timed: home.is_on_disk,
             began: Cell::new(None),
+            next_cut: Cell::new(None),
         }
     }
 
-    // Notes how long the round took that ends, if rounds are timed.
+    // Notes how long the round took that ends, if rounds are timed or the log was cut in it.
     fn end_round(&self) {
-        if !self.is_timed {
+        let is_cut = self.pace.cut.get() == Cut::Made;
+        if !self.is_timed && !is_cut {
             return;
         }
-        let micros = match (self.began.get(), Instant::now(self.rt)) {
-            (Some(began), Ok(now)) => micros_of(now.saturating_duration_since(began)),
+        let now = Instant::now(self.rt).ok();
+        let micros = match (self.began.get(), now) {
+            (Some(began), Some(now)) => micros_of(now.saturating_duration_since(began)),
             _ => 0,
         };
-        self.pace
-            .took
-            .set(u32::try_from(micros).unwrap_or(u32::MAX));
+        let took = u32::try_from(micros).unwrap_or(u32::MAX);
+        if self.is_timed {
+            self.pace.took.set(took);
+        }
+        if is_cut {
+            self.rest_from_cut(now, took);
+        }
     }
 
-    // Notes when the next round begins, if rounds are timed.
+    // Notes that a cut has ended now and took this many microseconds.
+    fn rest_from_cut(&self, now: Option<Instant>, took: u32) {
+        self.pace.cut.set(Cut::No);
+        let next = match now {
+            Some(now) => now.checked_add(Duration::from_micros(rest_after(took))),
+            None => None,
+        };
+        self.next_cut.set(next);
+    }
+
+    // Notes when the next round begins, if rounds are timed or the log is long enough to be cut, and whether it may be cut in it.
     fn begin_round(&self) {
-        if self.is_timed {
-            self.began.set(Instant::now(self.rt).ok());
+        let is_wanted = matches!(self.pace.cut.get(), Cut::Wanted | Cut::Due);
+        if !self.is_timed && !is_wanted {
+            return;
+        }
+        let now = Instant::now(self.rt).ok();
+        self.began.set(now);
+        if is_wanted && self.has_rested(now) {
+            self.pace.cut.set(Cut::Due);
+        }
+    }
+
+    // Returns whether the node has rested from its last cut.
+    fn has_rested(&self, now: Option<Instant>) -> bool {
+        match (self.next_cut.get(), now) {
+            (Some(next), Some(now)) => next.saturating_duration_since(now).is_zero(),
+            _ => true,
         }
     }
 
@@ -304,6 +384,9 @@ fn time_of(beats: u64) -> Duration {
 impl<R: Wait + Clock, G: Gate> Gate for Paced<'_, R, G> {
     fn pass(&self, node: u8, turn: u64) -> bool {
         self.end_round();
+        if self.pace.is_behind() {
+            return false;
+        }
         self.pace.begin();
         if self.lobby.has_slow() {
             self.wait_for_slow();

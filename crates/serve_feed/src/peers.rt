@@ -1,15 +1,18 @@
 // How the other members get on, and whether acts or ticks are held back for one of them.
+use crate::signs::offered_in;
 use actor_run::Seen;
 use node_actor::Heard;
 use paxos_packets::Members;
-use serve_policy::{Backpressure, Draining, Gaining};
+use serve_policy::{Backpressure, Debt, Draining, Gaining, Telling};
 
 // What a node knows of another member's progress.
 #[derive(Clone, Copy)]
 struct Peer {
     backpressure: Backpressure,
+    debt: Debt,
     draining: Draining,
     gaining: Gaining,
+    telling: Telling,
 }
 
 impl Peer {
@@ -17,8 +20,10 @@ impl Peer {
     const fn new() -> Peer {
         Peer {
             backpressure: Backpressure::new(),
+            debt: Debt::new(),
             draining: Draining::new(),
             gaining: Gaining::new(),
+            telling: Telling::new(),
         }
     }
 
@@ -39,6 +44,8 @@ pub(crate) struct Peers {
     judged: u64,
     holds_acts: bool,
     holds_ticks: bool,
+    // Whether one is owed entries.
+    is_owed: bool,
 }
 
 impl Peers {
@@ -51,12 +58,22 @@ impl Peers {
             judged: u64::MAX,
             holds_acts: false,
             holds_ticks: false,
+            is_owed: false,
         }
     }
 
     // Returns whether packets wait for any member.
     pub fn has_waiting(&self) -> bool {
         self.waiting != [0; 7]
+    }
+
+    // Returns how many packets wait for the member for which most do.
+    pub fn most_waiting(&self) -> usize {
+        let mut most = 0;
+        for count in self.waiting {
+            most = most.max(count);
+        }
+        usize::from(most)
     }
 
     // Returns whether acts are held back.
@@ -69,11 +86,33 @@ impl Peers {
         self.holds_ticks
     }
 
+    // Returns whether a member is owed entries.
+    pub fn is_owed(&self) -> bool {
+        self.is_owed
+    }
+
+    // Notes that the node ticks.
+    pub fn tick(&mut self) {
+        for place in 0..self.count.min(7) {
+            self.peers[usize::from(place)].telling.tick();
+        }
+    }
+
+    // Returns whether a member may tell the entry after a log of this length.
+    pub fn may_tell(&self, log: u64) -> bool {
+        for place in 0..self.count.min(7) {
+            if self.peers[usize::from(place)].telling.may_tell(log) {
+                return true;
+            }
+        }
+        false
+    }
+
     // Judges each member by what a turn at this beat has shown, if a commit takes `commit` beats. Returns whether the number of packets that
     // wait for a member has changed.
     pub fn watch(&mut self, beat: u64, commit: u8, seen: &Seen) -> bool {
-        if let (Some(from), Some(Heard::Ask(first))) = (seen.from, seen.heard) {
-            self.hear_ask(beat, from, first, seen.applied);
+        if let Some(from) = seen.from {
+            self.hear(beat, from, seen);
         }
         let has_changed = seen.waiting != self.waiting;
         if has_changed || beat != self.judged {
@@ -84,19 +123,26 @@ impl Peers {
         has_changed
     }
 
-    // Notes that a member asks for what was learned from a slot on.
-    fn hear_ask(&mut self, beat: u64, from: u8, first: u64, applied: u64) {
+    // Notes what a packet of a member shows.
+    fn hear(&mut self, beat: u64, from: u8, seen: &Seen) {
         let place = usize::from(from).wrapping_sub(1);
-        if place < 7 {
-            let peer = &mut self.peers[place];
-            peer.gaining.asks(beat, first, applied);
+        if place >= 7 {
+            return;
+        }
+        let peer = &mut self.peers[place];
+        peer.telling.hears(seen.applied, offered_in(seen.heard));
+        if let Some(Heard::Ask(first)) = seen.heard {
+            peer.debt.asks(beat, first, seen.applied, seen.floor);
+            peer.gaining.asks(beat, first, seen.applied, seen.floor);
         }
     }
 
-    // Judges each member: acts are held back for one that falls behind or gains, and ticks for one that packets wait for.
+    // Judges each member: acts are held back for one that falls behind or gains, ticks for one that packets wait for, and a cut for one that
+    // is owed entries.
     fn judge(&mut self, beat: u64, commit: u8, seen: &Seen) {
         let mut holds_acts = false;
         let mut holds_ticks = false;
+        let mut is_owed = false;
         for place in 0..self.count.min(7) {
             let at = usize::from(place);
             let waiting = usize::from(self.waiting[at]);
@@ -104,8 +150,11 @@ impl Peers {
             let peer = &mut self.peers[at];
             holds_acts = peer.holds_acts(beat, waiting) || holds_acts;
             holds_ticks = peer.draining.holds(beat, waiting, is_posted, commit) || holds_ticks;
+            peer.debt.wait(beat, waiting, seen.applied);
+            is_owed = peer.debt.is_owed(beat) || is_owed;
         }
         self.holds_acts = holds_acts;
         self.holds_ticks = holds_ticks;
+        self.is_owed = is_owed;
     }
 }

@@ -1,6 +1,6 @@
 // What a turn of a node shows of the cluster's work.
 ghost use Rattle.std.specs.Prelude.{◌≡◌};
-ghost use Rattle.serve_feed.specs.Signs.{turn_of, sign_of, shown, counted, is_promised, lacks_entries};
+ghost use Rattle.serve_feed.specs.Signs.{turn_of, sign_of, shown, counted, is_promised, offered_in, entries_above, lacks_entries};
 
 use actor_run::Seen;
 use node_actor::Heard;
@@ -79,6 +79,31 @@ fn is_promised(before: Option<Ballot>, ballot: Ballot) -> bool
         Some(other) => other == ballot,
         None => false,
     }
+}
+
+// Returns where a snapshot ends that came in the turn, if one came.
+pub(crate) fn offered_in(heard: Option<Heard>) -> Option<u64>
+    ensures { result ≡ offered_in heard }
+{
+    match heard {
+        Some(Heard::Snapshot(floor)) => Some(floor),
+        Some(
+            Heard::Prepare(_)
+            | Heard::Ballot(_)
+            | Heard::Refusal { .. }
+            | Heard::Entries
+            | Heard::Learned
+            | Heard::Ask(_),
+        ) => None,
+        None => None,
+    }
+}
+
+// Returns how many entries the node has applied above its floor.
+pub(crate) fn entries_above(seen: &Seen) -> u64
+    ensures { result ≡ entries_above seen.now }
+{
+    seen.applied.saturating_sub(seen.floor)
 }
 
 // Returns whether a node lacks entries: it does not lead, and has voted in more than 4,096 slots after its log. A packet to it was lost, and its

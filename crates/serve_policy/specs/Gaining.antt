@@ -20,9 +20,14 @@ lacking beat log lacks l =
     else if is_marked log lacks l then record { log = log; mark = lacks; since = beat }
     else record l { log = log }
 
--- at this beat a node asks for what was learned from a slot on, of one whose log has this length
-abbrev pub asking : ℕ → ℕ → ℕ → Lack → Lack
-asking beat first applied l = lacking beat (first - 1) (applied - (first - 1)) l
+-- how many entries a node lacks that asks for what was learned from a slot on, of one whose log has this length, and begins with a snapshot up
+-- to this floor: none if it waits for the snapshot. Once it has taken it, it is counted from there
+abbrev pub lacked_from : ℕ → ℕ → ℕ → ℕ
+lacked_from first applied floor = if nat_le first floor then 0 else applied - (first - 1)
+
+-- at this beat a node asks so
+abbrev pub asking : ℕ → ℕ → ℕ → ℕ → Lack → Lack
+asking beat first applied floor l = lacking beat (first - 1) (lacked_from first applied floor) l
 
 -- whether acts are held back: it lacks many entries, and has gained an eighth of them less than 512 beats ago; but for one beat of four
 abbrev pub is_gaining : ℕ → Lack → Bool

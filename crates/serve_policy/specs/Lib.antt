@@ -1,10 +1,14 @@
 pub mod Admission
 pub mod Backpressure
+pub mod Behind
 pub mod Clock
 pub mod Commits
+pub mod Cutting
+pub mod Debt
 pub mod Draining
 pub mod Draws
 pub mod Gaining
 pub mod Reader
 pub mod Signs
+pub mod Telling
 pub mod Ticks

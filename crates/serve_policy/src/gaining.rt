@@ -1,6 +1,6 @@
 // When acts are held back for another node that lacks many entries and gains.
 ghost use Rattle.std.specs.Prelude.{◌≡◌};
-ghost use Rattle.serve_policy.specs.Gaining.{asking, lacking, is_marked, is_gaining};
+ghost use Rattle.serve_policy.specs.Gaining.{asking, lacked_from, lacking, is_marked, is_gaining};
 
 use std::marker::Model;
 
@@ -17,7 +17,8 @@ const BEATS_A_TURN: u64 = 4;
 /// had gained last (0 if it lacked few), and at which beat that was.
 ///
 /// A node that did not run for long lacks more entries than it can get while the others go on at full speed. So they hold acts back until it
-/// has come level, as long as it gains: each time that it lacks an eighth less.
+/// has come level, as long as it gains: each time that it lacks an eighth less. One that asks for what this node has only in its snapshot
+/// takes a snapshot first, at whatever speed the others go on; what it lacks then is counted anew.
 #[derive(Clone, Copy)]
 pub struct Gaining {
     log: u64,
@@ -47,13 +48,14 @@ impl Gaining {
         }
     }
 
-    /// Notes that the other node asks for what was learned from the slot `first` on, while this node has applied this many entries. Takes
-    /// constant time.
-    pub fn asks(&mut self, beat: u64, first: u64, applied: u64)
-        ensures { self.new ≡ asking beat first applied self.old }
+    /// Notes that the other node asks for what was learned from the slot `first` on, while this node has applied this many entries, up to
+    /// `floor` by its snapshot. A node that asks for a slot at or below the floor waits for the snapshot, and no acts are held back for it
+    /// until it has taken that. Takes constant time.
+    pub fn asks(&mut self, beat: u64, first: u64, applied: u64, floor: u64)
+        ensures { self.new ≡ asking beat first applied floor self.old }
     {
         let log = first.saturating_sub(1);
-        self.lacks(beat, log, applied.saturating_sub(log));
+        self.lacks(beat, log, lacked_from(first, applied, floor));
     }
 
     // Notes that its log has this length, and that it lacks this many entries.
@@ -83,4 +85,14 @@ impl Gaining {
     {
         beat % BEATS_A_TURN != 0 && self.mark > 0 && beat.saturating_sub(self.since) < BEATS_HELD
     }
+}
+
+// Returns how many entries a node lacks that asks so; none if it waits for the snapshot.
+fn lacked_from(first: u64, applied: u64, floor: u64) -> u64
+    ensures { result ≡ lacked_from first applied floor }
+{
+    if first <= floor {
+        return 0;
+    }
+    applied.saturating_sub(first.saturating_sub(1))
 }

@@ -1,5 +1,5 @@
-// The lives of a node on its thread: it is opened over its store and turned until its gate is shut. If it is lost in its boot it begins its
-// next one over the same store.
+// The lives of a node on its thread: it is opened over its store and turned until its gate is shut. If it is lost in its boot, or behind the
+// others for good, it begins its next one over the same store.
 ghost use Rattle.std.specs.Prelude.{◌≡◌, [], true, false, IfOk, IfErr, OnOk};
 ghost use Rattle.actor_parts.specs.Fault as actor;
 ghost use Rattle.mail_table.specs.Seats.{Owns};
@@ -9,7 +9,7 @@ ghost use Rattle.serve_program.specs.Fault.{number_of, is_fatal, IsEnding};
 
 use crate::cluster::FreshSeat;
 use crate::fault::NodeFault;
-use crate::source::{Boots, Source};
+use crate::source::{Boots, Cause, Source};
 use actor_run::{Gate, run_node};
 use node_actor::{Actor, ActorFault, Body, Keeper, Machine, Mail, NodeSeat, Post};
 use std::alloc::Global;
@@ -121,13 +121,14 @@ fn judge_end(fault: NodeFault) -> Result<(), NodeFault>
     }
 }
 
-// Turns the actor until its gate is shut, and returns true, or until it is lost in its boot. Any other fault is returned.
+// Turns the actor until its gate lets no further turn pass, or until it is lost in its boot. Returns why the node begins another boot, if it
+// does. Any other fault is returned.
 fn run_boot<M: Machine, K: Keeper<M::Body>, G: Gate, F: Boots<M::Body, M::Say>>(
     mail: &Mail<M::Body>,
     actor: &mut Actor<M, K>,
     gate: &G,
     feed: &mut F,
-) -> Result<bool, NodeFault>
+) -> Result<Option<Cause>, NodeFault>
     requires owned { Owns mail.now actor.old.seat }
     requires stands { StandsFor actor.old actor.old.seat }
     requires told { F.saw feed.old [] [] }
@@ -135,9 +136,9 @@ fn run_boot<M: Machine, K: Keeper<M::Body>, G: Gate, F: Boots<M::Body, M::Say>>(
     ensures ending { IfErr result IsEnding }
 {
     match run_node(mail, actor, gate, feed) {
-        Ok(()) => Ok(true),
+        Ok(()) => Ok(feed.is_behind().then_some(Cause::Behind)),
         Err(fault) => match judge_end(NodeFault::from(fault)) {
-            Ok(()) => Ok(false),
+            Ok(()) => Ok(Some(Cause::Lost)),
             Err(fault) => Err(fault),
         },
     }
@@ -153,7 +154,8 @@ fn leave<M: Machine, K: Keeper<M::Body> + Drop>(actor: Actor<M, K>) -> NodeSeat<
 }
 
 /// Opens the node at this seat over its store, with a machine from the source, and turns it until its gate is shut; returns its seat. A node
-/// that is lost is crashed and restarted over the same store, which has not failed, with a new machine. The feed notes each boot.
+/// that is lost, or behind for good, is crashed and restarted over the same store, which has not failed, with a new machine. The feed notes
+/// each boot.
 ///
 /// Any other fault ends the node and is returned: `NoMember` for a seat of no member, `Memory` if the source has none, the actor's or the
 /// store's. It is never `Lost`, nor `Rounds` or `Full`, which end no run. Seat, machine and store are dropped then.
@@ -178,16 +180,16 @@ where
     let mut actor = open_actor::<M, K, S>(alloc, fresh, source, keeper)?;
     feed.up(actor.me(), actor.boot());
     for _ in 0..u64::MAX {
-        match run_boot(mail, &mut actor, gate, feed) {
-            Ok(true) => return Ok(leave(actor)),
-            Ok(false) => {}
+        let cause = match run_boot(mail, &mut actor, gate, feed) {
+            Ok(Some(cause)) => cause,
+            Ok(None) => return Ok(leave(actor)),
             Err(fault) => {
                 drop(actor);
                 return Err(fault);
             }
-        }
+        };
         actor = restart_actor(alloc, mail, actor, source)?;
-        feed.up_again(actor.me(), actor.boot());
+        feed.up_again(actor.me(), actor.boot(), cause);
     }
     Ok(leave(actor))
 }

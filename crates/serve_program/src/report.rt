@@ -6,7 +6,7 @@ ghost use Rattle.realm_acts.specs.declared.act.Act.{Act};
 ghost use Rattle.realm_machine.specs.declared.sayings.say.Say.{Say};
 ghost use Rattle.serve_feed.specs.Feeds.{HasGiven};
 
-use crate::source::Boots;
+use crate::source::{Boots, Cause};
 use crate::status::{Status, standing_of};
 use actor_run::{Feed, Seen};
 use node_actor::{Event, Members};
@@ -136,6 +136,7 @@ impl<R: Eprint + Clock> Reporter<'_, R> {
             members: self.members.count(),
             standing: standing_of(self.node, seen),
             applied: seen.applied,
+            floor: seen.floor,
             is_pending: seen.pending,
             waiting: seen.waiting,
             connections: clients.connections(),
@@ -182,13 +183,19 @@ impl<R: Eprint + Clock> Boots<Act, Say> for ReportingFeed<'_, R> {
         let _ = eprintln!(self.reporter.rt; "node {node} is up in boot {boot}");
     }
 
-    fn up_again(&mut self, node: u8, boot: u64)
+    fn up_again(&mut self, node: u8, boot: u64, cause: Cause)
         ensures { HasGiven self.new.clients [] }
     {
         self.clients.restart(boot);
         self.reporter.begin(boot);
-        let _ = eprintln!(self.reporter.rt;
-            "node {node} is restarted in boot {boot}: it was taken to be lost"
-        );
+        let why = match cause {
+            Cause::Lost => "it was taken to be lost",
+            Cause::Behind => "it was too far behind",
+        };
+        let _ = eprintln!(self.reporter.rt; "node {node} is restarted in boot {boot}: {why}");
+    }
+
+    fn is_behind(&self) -> bool {
+        self.clients.is_behind()
     }
 }

@@ -1,4 +1,4 @@
-// What a node's thread needs: a source of machines, and a feed that notes boots.
+// What a node's thread needs: a source of machines, and a feed that notes boots, and why another one begins.
 ghost use Rattle.std.specs.Prelude.{◌≡◌, [], false, IfOk};
 
 use actor_run::Feed;
@@ -12,13 +12,25 @@ pub(crate) trait Source<M: Machine> {
         ensures { IfOk result (λ machine. M.has_failed machine ≡ false) };
 }
 
+/// Why a node begins another boot.
+#[derive(Clone, Copy)]
+pub(crate) enum Cause {
+    /// It was lost in its boot.
+    Lost,
+    /// It was behind the other nodes for good.
+    Behind,
+}
+
 /// A feed that notes its node's boots.
 pub(crate) trait Boots<B, Y>: Feed<B, Y> {
     /// Notes that the node is up in this boot, the first one of its run: nothing was given or got in it yet.
     fn up(&mut self, node: u8, boot: u64)
         ensures { Self.saw self.new [] [] };
 
-    /// Notes that the node was lost, and is up again in this boot: nothing was given or got in it yet.
-    fn up_again(&mut self, node: u8, boot: u64)
+    /// Notes that the node is up again in this boot, and why: nothing was given or got in it yet.
+    fn up_again(&mut self, node: u8, boot: u64, cause: Cause)
         ensures { Self.saw self.new [] [] };
+
+    /// Returns whether the node is behind for good in its boot, which ends its run.
+    fn is_behind(&self) -> bool;
 }

@@ -53,6 +53,7 @@ pub(crate) struct Status {
     pub members: u8,
     pub standing: Standing,
     pub applied: u64,
+    pub floor: u64,
     pub is_pending: bool,
     pub waiting: [u16; 7],
     pub connections: usize,
@@ -75,12 +76,13 @@ impl Display for Status {
             boot,
             standing,
             applied,
+            floor,
             ..
         } = self;
         let pending = if self.is_pending { "some" } else { "none" };
         write!(
             f,
-            "node {node}: boot {boot}, {standing}, {applied} entries applied, {pending} pending, packets wait"
+            "node {node}: boot {boot}, {standing}, {applied} entries applied, {floor} of them in its snapshot, {pending} pending, packets wait"
         )?;
         for below in 0..self.members.min(7) {
             let peer = below + 1;

@@ -1,8 +1,9 @@
 use Rattle.std.proofs.Common.{◌≡◌, ◌∷◌, [], ◌++◌, ◌∙◌, refl, ap, sym}
+use Rattle.std.specs.Option.{option_to_list}
 use Rattle.actor_run.specs.Events.{asked_in}
-use Rattle.serve_feed.proofs.Giving.{gives_none, gives_other, carried}
+use Rattle.serve_feed.proofs.Giving.{gives_none, gives_other, gives_others, carried}
 use Rattle.serve_feed.proofs.feed.ClientFeedFeedActSay.next.Goals as goal
-use Rattle.serve_feed.proofs.feed.ClientFeedFeedActSay.next.Goals.{else-self-via-else-self, else-self-via-then-self+in-None-1}
+use Rattle.serve_feed.proofs.feed.ClientFeedFeedActSay.next.Goals.{else-self-2-via-else-self-2, else-self-2-via-then-self-2+in-None-1}
 
 pub returns : goal.returns
 returns c =
@@ -14,17 +15,27 @@ returns c =
     (sym c.due.ensures.node) (sym c.due.ensures.sources)
     (gives_other now.node c.due.result now.lanes.sources given (c.due.ensures.none now.node) seen)
 
+pub returns-then-self : goal.returns-then-self
+returns-then-self c =
+    λ given got saw.
+    let now = c.see.new.self in
+    let tells = c.see.ensures.tells (asked_in c.args.self.now.node given) saw in
+    let seen = carried c.args.self.now.node now.node now.lanes.sources now.lanes.sources given (sym c.see.ensures.node) refl tells in
+    carried now.node c.cut.new.self.node now.lanes.sources c.cut.new.self.lanes.sources (given ++ option_to_list c.cut.result)
+    (sym c.cut.ensures.node) (sym c.cut.ensures.sources)
+    (gives_others now.node (option_to_list c.cut.result) now.lanes.sources given (c.cut.ensures.none now.node) seen)
+
 pub returns-then-not-may_act : goal.returns-then-not-may_act
 returns-then-not-may_act c =
     let now = c.see.new.self in
-    let here = c.else-self.self in
-    let node : here.node ≡ now.node = elim c.else-self.branch [
-      | else-self-via-else-self w ↦ ap (λ s. s.node) w.self-is
-      | else-self-via-then-self+in-None-1 w ↦ ap (λ s. s.node) w.self-is
+    let here = c.else-self-2.self in
+    let node : here.node ≡ now.node = elim c.else-self-2.branch [
+      | else-self-2-via-else-self-2 w ↦ ap (λ s. s.node) w.self-is
+      | else-self-2-via-then-self-2+in-None-1 w ↦ ap (λ s. s.node) w.self-is
     ] in
-    let sources : here.lanes.sources ≡ now.lanes.sources = elim c.else-self.branch [
-      | else-self-via-else-self w ↦ ap (λ s. s.lanes.sources) w.self-is
-      | else-self-via-then-self+in-None-1 w ↦ ap (λ s. s.lanes.sources) w.self-is
+    let sources : here.lanes.sources ≡ now.lanes.sources = elim c.else-self-2.branch [
+      | else-self-2-via-else-self-2 w ↦ ap (λ s. s.lanes.sources) w.self-is
+      | else-self-2-via-then-self-2+in-None-1 w ↦ ap (λ s. s.lanes.sources) w.self-is
     ] in
     λ given got saw.
     let tells = c.see.ensures.tells (asked_in c.args.self.now.node given) saw in
@@ -38,14 +49,14 @@ returns-then-not-may_act c =
 pub returns-2 : goal.returns-2
 returns-2 c =
     let now = c.see.new.self in
-    let here = c.else-self.self in
-    let node : here.node ≡ now.node = elim c.else-self.branch [
-      | else-self-via-else-self w ↦ ap (λ s. s.node) w.self-is
-      | else-self-via-then-self+in-None-1 w ↦ ap (λ s. s.node) w.self-is
+    let here = c.else-self-2.self in
+    let node : here.node ≡ now.node = elim c.else-self-2.branch [
+      | else-self-2-via-else-self-2 w ↦ ap (λ s. s.node) w.self-is
+      | else-self-2-via-then-self-2+in-None-1 w ↦ ap (λ s. s.node) w.self-is
     ] in
-    let sources : here.lanes.sources ≡ now.lanes.sources = elim c.else-self.branch [
-      | else-self-via-else-self w ↦ ap (λ s. s.lanes.sources) w.self-is
-      | else-self-via-then-self+in-None-1 w ↦ ap (λ s. s.lanes.sources) w.self-is
+    let sources : here.lanes.sources ≡ now.lanes.sources = elim c.else-self-2.branch [
+      | else-self-2-via-else-self-2 w ↦ ap (λ s. s.lanes.sources) w.self-is
+      | else-self-2-via-then-self-2+in-None-1 w ↦ ap (λ s. s.lanes.sources) w.self-is
     ] in
     λ given got saw.
     let tells = c.see.ensures.tells (asked_in c.args.self.now.node given) saw in
