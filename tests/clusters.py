@@ -29,6 +29,8 @@ MOST_NODES = 7
 # Seconds to wait for one answer, and for a program to be up or to end.
 PATIENCE = 30
 PATIENCE_OF_RUNS = 60
+# How many entries a node applies above its floor before it cuts its log.
+ENTRIES_A_CUT = 4096
 # Seconds after which a busy loop ends by itself.
 PATIENCE_OF_LOOPS = 1800
 # Seconds without an acknowledgement that count as a gap, and seconds between two notes of how much was sent.
@@ -276,6 +278,10 @@ def free_port(nodes=NODES):
     raise Fault("no free ports")
 
 
+# The line of a node's status: how many entries it has applied, and how many of them its snapshot gives.
+STATUS = re.compile(r"^node (\d): boot \d+, .*, (\d+) entries applied, (\d+) of them in its snapshot, ", re.M)
+
+
 class Cluster:
     """A running `wampd serve`, or another program in its place; `environment` is added to this process's own."""
 
@@ -400,6 +406,24 @@ class Cluster:
         """Writes a line to its standard input."""
         self.child.stdin.write(line + b"\n")
         self.child.stdin.flush()
+
+    def floors(self, nodes=None):
+        """Asks for the status of these nodes, or of all. Returns for each how many entries it has applied, and how many of them its snapshot
+        gives."""
+        nodes = nodes or range(1, self.nodes + 1)
+        before = len(STATUS.findall(self.told()))
+        self.tell(b"status")
+        until = time.monotonic() + PATIENCE
+        found = {}
+        while not all(node in found for node in nodes):
+            hold(time.monotonic() < until, f"the nodes do not tell their status: {self.told()!r}")
+            time.sleep(0.01)
+            found = {int(node): (int(applied), int(floor)) for node, applied, floor in STATUS.findall(self.told())[before:]}
+        return [found[node] for node in nodes]
+
+    def left_behind(self):
+        """Returns the nodes that have said that they were too far behind, in that order."""
+        return [int(node) for node in re.findall(r"^node (\d) is restarted in boot \d+: it was too far behind$", self.told(), re.M)]
 
     def stop(self):
         """Ends its input. It has to end with status 0 then."""
@@ -581,10 +605,11 @@ class Load:
             self.at[publisher.stream.fileno()] = publisher
         self.is_open = True
         self.sent = self.done = 0
-        # The seconds that each publication took; the gaps in which nothing was acknowledged, as when each began and how long it lasted; and
-        # how many publications had been sent by which time.
+        # The seconds that each publication took; the gaps in which nothing was acknowledged, as when each began and how long it lasted, and
+        # the longest of all; and how many publications had been sent by which time.
         self.took = []
         self.gaps = []
+        self.longest = 0.0
         self.notes = []
         self.last = time.monotonic()
 
@@ -629,6 +654,7 @@ class Load:
 
     def note(self, now):
         """Notes that something was acknowledged now."""
+        self.longest = max(self.longest, now - self.last)
         if now - self.last >= GAP:
             self.gaps.append((self.last, now - self.last))
         self.last = now
@@ -672,6 +698,15 @@ def fill(cluster, count, clients=16, flight=16, limit=600):
     return time.monotonic() - begin
 
 
+def raise_floors(cluster, limit=600):
+    """Has publications of a cluster acknowledged until the floor of each node is above ENTRIES_A_CUT. Returns these floors."""
+    until = time.monotonic() + limit
+    while min(floors := [floor for _, floor in cluster.floors()]) <= ENTRIES_A_CUT:
+        hold(time.monotonic() < until, f"after {limit} s of publications the nodes have the floors {floors}")
+        fill(cluster, ENTRIES_A_CUT // 4)
+    return floors
+
+
 def share_of(values, share):
     """Returns the value that this share of the values does not exceed; 0 if there are none."""
     values = sorted(values)
@@ -685,9 +720,11 @@ class Helper:
     """A process that does one of WORKS with these options. It and the program exchange lines of JSON. It ends when its input ends."""
 
     running = []
+    # Which program does the work.
+    FILE = os.path.abspath(__file__)
 
     def __init__(self, work, **options):
-        words = [sys.executable, "-B", os.path.abspath(__file__), work, json.dumps(options)]
+        words = [sys.executable, "-B", self.FILE, work, json.dumps(options)]
         self.work = work
         self.child = subprocess.Popen(words, stdin=subprocess.PIPE, stdout=subprocess.PIPE)
         self.rest = b""
@@ -698,6 +735,10 @@ class Helper:
         with contextlib.suppress(BrokenPipeError):
             self.child.stdin.write(json.dumps(value).encode() + b"\n")
             self.child.stdin.flush()
+
+    def is_heard(self, seconds):
+        """Returns whether it says something, or ends, within this number of seconds."""
+        return b"\n" in self.rest or bool(select.select([self.child.stdout], [], [], seconds)[0])
 
     def hear(self, limit):
         """Returns the next value that it sends."""
@@ -715,6 +756,13 @@ class Helper:
     def kill(self):
         self.child.kill()
         self.child.wait()
+
+    def forget(self):
+        """Closes the files of a helper that has ended."""
+        Helper.running.remove(self)
+        for file in (self.child.stdin, self.child.stdout):
+            with contextlib.suppress(BrokenPipeError):
+                file.close()
 
     @staticmethod
     def end_all():
@@ -757,6 +805,7 @@ def work_publish(ports, flight=16, topic="test.topic", octets=32, pause=0, limit
             "done": [publisher.done for publisher in load.publishers],
             "seconds": seconds,
             "gaps": load.gaps,
+            "longest": load.longest,
             "notes": load.notes,
             "took": load.took,
         }

@@ -1,6 +1,6 @@
 // A keeper in memory, whose kth commit fails.
 use crate::check::Check;
-use crate::session::{Crashes, Life, Stop, live};
+use crate::session::{Course, Crashes, Stop, live};
 use std::alloc::Global;
 use std::process::Abort;
 use store_keeper::MemKeeper;
@@ -20,25 +20,32 @@ impl Crashes<MemKeeper<Number>> for Reopening {
     }
 }
 
-// The kth commit of node 2 fails, and leaves the new rows if `after`.
-fn lives(rt: &impl Abort, alloc: Global, k: u64, after: bool) -> Life {
-    live(rt, alloc, MemKeeper::failing(alloc, k, after), &Reopening)
-}
+// How many commits failed, one a run, until a run met no stop; and after how many of them node 2 took the snapshot of node 1.
+type Failures = (u64, u64);
 
-// Returns how many commits failed, one a run, until a run met no stop. After each of them the rows are new exactly if `after`.
-fn failures(rt: &impl Abort, alloc: Global, after: bool) -> u64 {
+// The failures of these courses. After each of them the rows are new exactly if `after`.
+fn failures(rt: &impl Abort, alloc: Global, after: bool, course: Course) -> Failures {
+    let mut takes = 0u64;
     for k in 1..MOST_COMMITS {
-        let life = lives(rt, alloc, k, after);
+        let keeper = MemKeeper::failing(alloc, k, after);
+        let life = live(rt, alloc, keeper, &Reopening, course);
         if life.stop == Stop::Nowhere {
-            return k - 1;
+            return (k - 1, takes);
         }
         check_eq!(rt; (life.stop, life.is_new), (Stop::Commit, after), k);
+        takes = takes.saturating_add(u64::from(life.takes));
     }
     panic!(rt; "commits without end")
 }
 
 #[test]
 fn each_commit_fails(rt: HostRuntime) {
-    check_eq!(&rt; failures(&rt, rt.alloc(), false), 5);
-    check_eq!(&rt; failures(&rt, rt.alloc(), true), 5);
+    check_eq!(&rt; failures(&rt, rt.alloc(), false, Course::Whole), (5, 0));
+    check_eq!(&rt; failures(&rt, rt.alloc(), true, Course::Whole), (5, 0));
+}
+
+#[test]
+fn each_commit_of_cuts_fails(rt: HostRuntime) {
+    check_eq!(&rt; failures(&rt, rt.alloc(), false, Course::Cut), (9, 3));
+    check_eq!(&rt; failures(&rt, rt.alloc(), true, Course::Cut), (9, 2));
 }

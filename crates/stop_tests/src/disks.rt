@@ -1,6 +1,6 @@
 // A store over SQLite, whose files are disks in memory. One of them fails each call after k; the crash that follows leaves of each file
 // what was synced, and nothing or all of what was not.
-use crate::session::{Crashes, Life, live};
+use crate::session::{Course, Crashes, Life, live};
 use acceptor_store::SqlKeeper;
 use sqlite::{Alter, Connection, FileStore, Files, Options};
 use sqlite_disk::{Crash, Disk, Fuse, Memory};
@@ -224,8 +224,9 @@ fn live_over<S: Alter + Drop, C: Crashes<SqlKeeper<Number, Octet, S>>>(
     alloc: Global,
     keeper: SqlKeeper<Number, Octet, S>,
     crashes: &C,
+    course: Course,
 ) -> Life {
-    live(rt, alloc, keeper, crashes)
+    live(rt, alloc, keeper, crashes, course)
 }
 
 /// A new store, whose disks do not fail.
@@ -238,7 +239,13 @@ pub fn new_store(rt: &impl Abort, alloc: Global) -> Stored {
 
 /// A life of node 2, whose store stops after this many calls of one file; and whether it stopped before it was open. It is opened again on
 /// what the crash left then, and does not stop any more.
-pub fn live_on_disks(rt: &impl Abort, alloc: Global, plan: Plan, calls: u64) -> (Life, bool) {
+pub fn live_on_disks(
+    rt: &impl Abort,
+    alloc: Global,
+    course: Course,
+    plan: Plan,
+    calls: u64,
+) -> (Life, bool) {
     let crashing = Crashing { rt, alloc, plan };
     let (log, db) = calls_of(plan.which, calls);
     let files = Files {
@@ -249,5 +256,5 @@ pub fn live_on_disks(rt: &impl Abort, alloc: Global, plan: Plan, calls: u64) -> 
         Ok(keeper) => (keeper, false),
         Err(files) => (crashing.store_after(files), true),
     };
-    (live_over(rt, alloc, keeper, &crashing), opened_late)
+    (live_over(rt, alloc, keeper, &crashing, course), opened_late)
 }

@@ -15,8 +15,8 @@ fn is_promise_kept(known: Option<Ballot>, found: Option<Ballot>) -> bool {
     }
 }
 
-// Up to which slot a snapshot gives the log, 0 without one.
-fn floor_of(rows: &Rows<Number>) -> u64 {
+/// Up to which slot a snapshot gives the log, 0 without one.
+pub fn floor_of(rows: &Rows<Number>) -> u64 {
     match &rows.snapshot {
         Some(snapshot) => snapshot.floor().get(),
         None => 0,

@@ -1,20 +1,20 @@
 // Three actors that add up: a session through them, in which the store of node 2 may stop; the crash of node 2, and its restart on what
-// that left; and what follows until the three logs are equal. One function owns the actors, and lends them to the others. What cannot be
+// that left; and what follows until the three logs are one. One function owns the actors, and lends them to the others. What cannot be
 // had, as memory or an actor, ends the test at once, so that no way out drops an actor.
 ghost use Rattle.std.specs.Prelude.{◌≡◌, All};
 ghost use Rattle.test_stands.specs.Fresh.{IsFresh};
 
 use crate::check::Check;
-use crate::kept::{are_same, is_all_kept};
+use crate::kept::{are_same, floor_of, is_all_kept};
 use mail_table::{Mail, NodeSeat, Office, found};
 use node_actor::{Entry, Keeper, KeeperFault, Members};
-use paxos_packets::{Body, Rows};
+use paxos_packets::{Body, Rows, Transport};
 use std::alloc::Global;
 use std::process::Abort;
 use store_keeper::MemKeeper;
 use test_checks::{check, check_eq};
 use test_machines::{Count, Number};
-use test_stands::{Answer, Begun, Left, SeatedActor, again, close, count_of, open_actor};
+use test_stands::{Answer, Begun, Left, SeatedActor, again, close, open_actor, told_of};
 
 // How often each node turns at most.
 const MOST_ROUNDS: u32 = 1_000;
@@ -31,7 +31,17 @@ pub trait Crashes<K> {
     fn reopened(&self, keeper: K) -> K;
 }
 
-/// Where the store of node 2 stopped: nowhere, as the node began its first boot, or in a commit of the session.
+/// What the nodes do before node 2 crashes.
+#[derive(Clone, Copy, PartialEq, Eq)]
+pub enum Course {
+    /// They go through a session.
+    Whole,
+    /// They go through a session, and node 1 cuts its log. Node 2 begins again over the same store, takes the snapshot of node 1, cuts its
+    /// own log, and goes on.
+    Cut,
+}
+
+/// Where the store of node 2 stopped: nowhere, as the node began a boot, or in a commit.
 #[derive(Clone, Copy, Debug, PartialEq, Eq)]
 pub enum Stop {
     Nowhere,
@@ -39,35 +49,51 @@ pub enum Stop {
     Commit,
 }
 
-/// A life of node 2: where its store stopped, and whether the rows that it found are new, and not those that it had.
+/// A life of node 2: where its store stopped; whether the rows that it found are new, and not those that it had; and whether it took the
+/// snapshot of node 1 then.
 #[derive(Clone, Copy)]
 pub struct Life {
     pub stop: Stop,
     pub is_new: bool,
+    pub takes: bool,
 }
 
-// What calls returned: how many sayings, the first fault, and the last one after that, each 0 if there is none.
+// What calls returned: how many sums, the last sum, the first fault, and the last one after that, each 0 if there is none.
 #[derive(Clone, Copy)]
 struct Heard {
     says: u64,
+    sum: u64,
     fault: u8,
     next: u8,
 }
 
 const NOTHING: Heard = Heard {
     says: 0,
+    sum: 0,
     fault: 0,
     next: 0,
 };
 
-fn hear<Y: Drop>(heard: &mut Heard, done: Answer<Y>) {
-    match count_of(done) {
-        Ok(says) => heard.says = heard.says.saturating_add(says),
-        Err(number) => hear_fault(heard, number),
+fn hear(heard: &mut Heard, done: Answer<(Transport, u64)>) {
+    let (says, number) = told_of(done);
+    if let Some(says) = says {
+        hear_sums(heard, says.as_slice());
+        drop(says);
+    }
+    hear_fault(heard, number);
+}
+
+fn hear_sums(heard: &mut Heard, says: &[(Transport, u64)]) {
+    for (_, sum) in says {
+        heard.says = heard.says.saturating_add(1);
+        heard.sum = *sum;
     }
 }
 
 fn hear_fault(heard: &mut Heard, number: u8) {
+    if number == 0 {
+        return;
+    }
     if heard.fault == 0 {
         heard.fault = number;
     } else {
@@ -81,6 +107,7 @@ enum Asked {
     Start,
     Tick,
     Take(u32),
+    Cut,
 }
 
 fn ask<K: Keeper<Number>>(actor: &mut SeatedActor<'_, Count, K>, heard: &mut Heard, asked: Asked) {
@@ -88,6 +115,7 @@ fn ask<K: Keeper<Number>>(actor: &mut SeatedActor<'_, Count, K>, heard: &mut Hea
         Asked::Start => actor.start(),
         Asked::Tick => actor.tick(),
         Asked::Take(number) => actor.take(1, Number::new(number)),
+        Asked::Cut => actor.cut(),
     };
     hear(heard, done);
 }
@@ -145,30 +173,76 @@ fn all_turns<K: Keeper<Number>>(
     panic!(rt; "packets without end")
 }
 
-// Node 1 leads, and node 2 takes 5 and 6 of its transport 1. Returns what the calls of node 2 returned.
+// Node 1 leads, and node 2 takes 5 and 6 of its transport 1. `second` hears what the calls of node 2 returned.
 fn session<K: Keeper<Number>>(
     rt: &impl Abort,
     one: &mut Other<'_>,
     two: &mut Second<'_, K>,
     three: &mut Other<'_>,
-) -> Heard {
+    second: &mut Heard,
+) {
     let mut others = NOTHING;
-    let mut second = NOTHING;
     ask(one, &mut others, Asked::Start);
-    all_turns(rt, one, two, three, &mut others, &mut second);
-    ask_second(two, &mut second, Asked::Take(5));
-    ask_second(two, &mut second, Asked::Take(6));
-    all_turns(rt, one, two, three, &mut others, &mut second);
+    all_turns(rt, one, two, three, &mut others, second);
+    ask_second(two, second, Asked::Take(5));
+    ask_second(two, second, Asked::Take(6));
+    all_turns(rt, one, two, three, &mut others, second);
     check_eq!(rt; others.fault, 0);
-    second
 }
 
-// Node 2, which has begun again, ticks, and node 1 leads in its next ballot; node 2 ticks once more.
+// Node 2, which goes down after the session, and begins again over the same store, unless a call of it has returned a fault.
+fn begun_again<'a, K: Keeper<Number>>(
+    alloc: Global,
+    two: Second<'a, K>,
+    heard: Heard,
+) -> Second<'a, K> {
+    match two {
+        Begun::Again(actor) => {
+            if heard.fault == 0 {
+                let (left, keeper) = actor.crash();
+                left.restart(alloc, Count::new(alloc), keeper)
+            } else {
+                Begun::Again(actor)
+            }
+        }
+        Begun::Not(number, left, keeper) => Begun::Not(number, left, keeper),
+    }
+}
+
+// Node 2 has taken the snapshot of node 1, unless its store has stopped.
+fn has_taken<K: Keeper<Number>>(rt: &impl Abort, two: &Second<'_, K>, heard: Heard) {
+    if let Begun::Again(actor) = two {
+        check!(rt; heard.fault != 0 || actor.floor() == 4);
+    }
+}
+
+// Node 1 cuts its log. Node 2, which has begun again, ticks, and is shown that snapshot; it cuts its own log, and takes 7.
+fn goes_over_cuts<K: Keeper<Number>>(
+    rt: &impl Abort,
+    one: &mut Other<'_>,
+    two: &mut Second<'_, K>,
+    three: &mut Other<'_>,
+    second: &mut Heard,
+) {
+    let mut others = NOTHING;
+    ask(one, &mut others, Asked::Cut);
+    ask_second(two, second, Asked::Tick);
+    all_turns(rt, one, two, three, &mut others, second);
+    has_taken(rt, two, *second);
+    ask_second(two, second, Asked::Cut);
+    ask_second(two, second, Asked::Take(7));
+    all_turns(rt, one, two, three, &mut others, second);
+    check_eq!(rt; others.fault, 0);
+}
+
+// Node 2, which has begun again, ticks, and node 1 leads in its next ballot; node 2 ticks once more. Its log ends with the boot that it
+// began on what it found. Then it takes 8, and says what the acts of the whole log add up to, which node 3 has.
 fn goes_on<K: Keeper<Number>>(
     rt: &impl Abort,
     one: &mut Other<'_>,
     two: &mut Second<'_, K>,
     three: &mut Other<'_>,
+    found: Found,
 ) {
     let mut others = NOTHING;
     let mut second = NOTHING;
@@ -177,7 +251,11 @@ fn goes_on<K: Keeper<Number>>(
     all_turns(rt, one, two, three, &mut others, &mut second);
     ask_second(two, &mut second, Asked::Tick);
     all_turns(rt, one, two, three, &mut others, &mut second);
+    check!(rt; ends_with_boot(three.log(), found.boot.saturating_add(1)));
+    ask_second(two, &mut second, Asked::Take(8));
+    all_turns(rt, one, two, three, &mut others, &mut second);
     check_eq!(rt; (others.fault, second.fault), (0, 0));
+    check_eq!(rt; (second.says, second.sum), (1, sum_of(three.log())));
 }
 
 // Where the store stopped: a node that could not begin has the fault 61; one whose commit failed has 61 and then, at each call, 71.
@@ -207,10 +285,11 @@ fn are_new(rt: &impl Abort, known: Option<&Rows<Number>>, found: &Rows<Number>) 
     }
 }
 
-// The boot that the store has, and whether its rows are new.
+// The boot and the floor that the store has, and whether its rows are new.
 #[derive(Clone, Copy)]
 struct Found {
     boot: u64,
+    floor: u64,
     is_new: bool,
 }
 
@@ -222,6 +301,7 @@ fn found_in<K: Keeper<Number>>(
     let rows = keeper.load().expect(rt, "rows");
     let found = Found {
         boot: rows.boot,
+        floor: floor_of(&rows),
         is_new: are_new(rt, known, &rows),
     };
     drop(rows);
@@ -285,26 +365,93 @@ fn ends_with_boot<B>(log: &[Entry<B>], number: u64) -> bool {
     }
 }
 
-// The three logs are equal, and end with the boot that node 2 began on what it found.
+// What the acts of a log add up to.
+fn sum_of(log: &[Entry<Number>]) -> u64 {
+    let mut sum = 0u64;
+    for entry in log {
+        sum = sum.saturating_add(number_in(entry));
+    }
+    sum
+}
+
+fn number_in(entry: &Entry<Number>) -> u64 {
+    match entry {
+        Entry::Item { body, .. } => u64::from(body.get()),
+        Entry::Noop | Entry::Boot { .. } | Entry::Lost { .. } => 0,
+    }
+}
+
+// Whether this is what the whole log has above the floor.
+fn is_above<B: Body>(whole: &[Entry<B>], floor: u64, log: &[Entry<B>]) -> bool {
+    match usize::try_from(floor) {
+        Ok(floor) => match whole.get(floor..) {
+            Some(rest) => are_same_logs(rest, log),
+            None => false,
+        },
+        Err(_) => false,
+    }
+}
+
+// The log of a node is the whole log: what it has above its floor is.
+fn is_level<K: Keeper<Number>>(
+    rt: &impl Abort,
+    whole: &[Entry<Number>],
+    actor: &SeatedActor<'_, Count, K>,
+) {
+    check!(rt; is_above(whole, actor.floor(), actor.log()));
+    check_eq!(rt; actor.applied(), whole.len() as u64);
+}
+
+// The three logs are one, their floors counted. Node 3 has no floor.
 fn are_level<K: Keeper<Number>>(
     rt: &impl Abort,
     one: &Other<'_>,
     two: &SeatedActor<'_, Count, K>,
     three: &Other<'_>,
-    found: Found,
 ) {
-    check!(rt; are_same_logs(one.log(), two.log()));
-    check!(rt; are_same_logs(one.log(), three.log()));
-    check!(rt; ends_with_boot(one.log(), found.boot.saturating_add(1)));
+    check_eq!(rt; three.floor(), 0);
+    is_level(rt, three.log(), one);
+    is_level(rt, three.log(), two);
+    is_level(rt, three.log(), three);
 }
 
-// Without a stop the session is whole: node 2 has said both sums, and has a log of two boots and two acts.
-fn is_whole<K: Keeper<Number>>(rt: &impl Abort, two: &Second<'_, K>, heard: Heard) {
-    let length = match two {
-        Begun::Again(actor) => actor.log().len(),
-        Begun::Not(..) => 0,
+// What is whole without a stop: how many sums node 2 has said, the length of its log, and its floor. After the session it has two boots and
+// two acts; then it takes the snapshot of node 1 at 4, has a boot more, which it cuts, and one more act.
+fn whole_of(course: Course) -> (u64, u64, u64) {
+    match course {
+        Course::Whole => (2, 4, 0),
+        Course::Cut => (3, 6, 5),
+    }
+}
+
+fn is_whole<K: Keeper<Number>>(rt: &impl Abort, two: &Second<'_, K>, heard: Heard, course: Course) {
+    let (length, floor) = match two {
+        Begun::Again(actor) => (actor.applied(), actor.floor()),
+        Begun::Not(..) => (0, 0),
     };
-    check_eq!(rt; (heard.says, length), (2, 4));
+    check_eq!(rt; (heard.says, length, floor), whole_of(course));
+}
+
+// The nodes go through the course. Returns node 2, and what its calls returned.
+fn gone<'a, K: Keeper<Number>>(
+    rt: &impl Abort,
+    alloc: Global,
+    one: &mut Other<'_>,
+    two: Second<'a, K>,
+    three: &mut Other<'_>,
+    course: Course,
+) -> (Second<'a, K>, Heard) {
+    let mut two = two;
+    let mut heard = NOTHING;
+    session(rt, one, &mut two, three, &mut heard);
+    match course {
+        Course::Whole => (two, heard),
+        Course::Cut => {
+            let mut two = begun_again(alloc, two, heard);
+            goes_over_cuts(rt, one, &mut two, three, &mut heard);
+            (two, heard)
+        }
+    }
 }
 
 // The actors of these seats live so.
@@ -315,26 +462,28 @@ fn lives<K: Keeper<Number> + Drop, C: Crashes<K>>(
     two: Second<'_, K>,
     three: Other<'_>,
     crashes: &C,
+    course: Course,
 ) -> Life {
     let mut one = one;
-    let mut two = two;
     let mut three = three;
-    let heard = session(rt, &mut one, &mut two, &mut three);
+    let (two, heard) = gone(rt, alloc, &mut one, two, &mut three, course);
     let stop = stop_of(rt, &two, heard);
     if stop == Stop::Nowhere {
-        is_whole(rt, &two, heard);
+        is_whole(rt, &two, heard, course);
     }
     let (mut two, found) = restarted(rt, alloc, two, crashes, stop);
     check!(rt; stop != Stop::Nowhere || !found.is_new);
-    goes_on(rt, &mut one, &mut two, &mut three);
+    goes_on(rt, &mut one, &mut two, &mut three, found);
     let two = again(two).expect(rt, "node 2");
-    are_level(rt, &one, &two, &three, found);
+    are_level(rt, &one, &two, &three);
+    let takes = found.floor < two.floor();
     close(one);
     close(two);
     close(three);
     Life {
         stop,
         is_new: found.is_new,
+        takes,
     }
 }
 
@@ -395,6 +544,7 @@ fn live_at<K: Keeper<Number> + Drop, C: Crashes<K>>(
     members: Members,
     keeper: K,
     crashes: &C,
+    course: Course,
 ) -> Life
     requires fresh { All (IsFresh mail.now) seats.old.items }
     requires members { members ≡ mail.now.members }
@@ -402,7 +552,7 @@ fn live_at<K: Keeper<Number> + Drop, C: Crashes<K>>(
     let three = opened_in_memory(rt, alloc, mail, seats, members);
     let two = opened(rt, alloc, mail, seats, members, keeper);
     let one = opened_in_memory(rt, alloc, mail, seats, members);
-    lives(rt, alloc, one, two, three, crashes)
+    lives(rt, alloc, one, two, three, crashes, course)
 }
 
 /// Opens three nodes at a new table, the second with this store, and lets them live so.
@@ -411,11 +561,14 @@ pub fn live<K: Keeper<Number> + Drop, C: Crashes<K>>(
     alloc: Global,
     keeper: K,
     crashes: &C,
+    course: Course,
 ) -> Life {
     let members = Members::new(3).expect(rt, "three members");
     let mut office = Office::new();
     let Ok((mail, mut seats)) = found::<Number>(alloc, &mut office, members) else {
         panic!(rt; "no room for a table");
     };
-    live_at(rt, alloc, &mail, &mut seats, members, keeper, crashes)
+    live_at(
+        rt, alloc, &mail, &mut seats, members, keeper, crashes, course,
+    )
 }
