@@ -62,6 +62,11 @@ const DEBTS: &[(u64, usize, u64, Option<u64>, bool)] = &[
     (10_000, 3000, 31_000, Some(30_500), true),
     (12_559, 3000, 40_000, None, true),
     (12_560, 3000, 40_000, None, false),
+    // It takes them, and asks again and again for an entry that it is owed.
+    (12_561, 0, 40_000, Some(39_999), true),
+    (15_000, 0, 40_100, Some(39_999), true),
+    (17_559, 0, 40_200, None, true),
+    (17_560, 0, 40_200, None, false),
 ];
 
 #[test]
@@ -120,9 +125,9 @@ fn a_node_is_behind_for_good_after_16_ticks_with_a_snapshot_that_it_does_not_tak
 }
 
 #[test]
-fn a_node_that_may_be_told_is_behind_for_good_after_256_ticks(rt: HostRuntime) {
+fn a_node_that_may_be_told_is_behind_for_good_after_2048_ticks(rt: HostRuntime) {
     let mut behind = Behind::new();
-    for count in 0..256u16 {
+    for count in 0..2048u16 {
         check_eq!(&rt; behind.is_for_good(true), false, count);
         check_eq!(&rt; behind.is_for_good(false), count >= 16, count);
         behind.see(0, Some(4096));
@@ -133,10 +138,10 @@ fn a_node_that_may_be_told_is_behind_for_good_after_256_ticks(rt: HostRuntime) {
 
 // How long a node's log is, where a snapshot of a member ends that comes, or another packet of it; how many ticks follow; and whether the member
 // may tell the entry after the log then.
-const TELLING: &[(u64, Option<u64>, u8, bool)] = &[
+const TELLING: &[(u64, Option<u64>, u16, bool)] = &[
     (100, None, 0, true),
-    (100, None, 127, true),
-    (100, None, 128, false),
+    (100, None, 4095, true),
+    (100, None, 4096, false),
     (100, Some(101), 0, false),
     // It sends packets for other slots, and a snapshot of before.
     (100, None, 1, false),
@@ -145,12 +150,12 @@ const TELLING: &[(u64, Option<u64>, u8, bool)] = &[
     (101, None, 1, true),
     (101, Some(101), 1, true),
     (101, Some(4096), 1, false),
-    (4096, Some(4096), 127, true),
-    (4096, Some(4096), 200, false),
+    (4096, Some(4096), 4095, true),
+    (4096, Some(4096), 5000, false),
 ];
 
 #[test]
-fn a_member_may_tell_until_it_offers_a_snapshot_or_is_not_heard_for_128_ticks(rt: HostRuntime) {
+fn a_member_may_tell_until_it_offers_a_snapshot_or_is_not_heard_for_4096_ticks(rt: HostRuntime) {
     let mut telling = Telling::new();
     check_eq!(&rt; telling.may_tell(0), false);
     for row in TELLING {
@@ -161,7 +166,7 @@ fn a_member_may_tell_until_it_offers_a_snapshot_or_is_not_heard_for_128_ticks(rt
         }
         check_eq!(&rt; telling.may_tell(log), wanted, *row);
         // It has not shown yet what it has above a longer log.
-        check_eq!(&rt; telling.may_tell(log.saturating_add(1)), ticks < 128, *row);
+        check_eq!(&rt; telling.may_tell(log.saturating_add(1)), ticks < 4096, *row);
     }
 }
 

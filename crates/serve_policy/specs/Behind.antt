@@ -2,7 +2,7 @@
 -- is claimed of a cluster rests on it.
 use Rattle.std.specs.Prelude.{ℕ, ◌==◌, ◌&&◌, ◌||◌, suc, nat_lt, nat_le, not, Bool, false, Option, Some, None, if◌then◌else◌}
 
--- how long the log was; whether a snapshot that ends above it was offered since the last tick; and after how many ticks, at most 256, one was
+-- how long the log was; whether a snapshot that ends above it was offered since the last tick; and after how many ticks, at most 2,048, one was
 -- since the log grew
 pub record Offers : Type 0 where
   pub log : ℕ
@@ -25,9 +25,9 @@ offering log floor o =
 
 -- the node ticks
 abbrev pub ticking : Offers → Offers
-ticking o = record o { is_offered = false; ticks = if o.is_offered && nat_lt o.ticks 256 then suc o.ticks else o.ticks }
+ticking o = record o { is_offered = false; ticks = if o.is_offered && nat_lt o.ticks 2048 then suc o.ticks else o.ticks }
 
 -- whether it is behind for good, if another member may still tell the entry after its log, or none may: that member may be behind itself, so it
 -- is not waited for without an end
 abbrev pub is_for_good : Bool → Offers → Bool
-is_for_good may_be_told o = nat_le 256 o.ticks || (nat_le 16 o.ticks && not may_be_told)
+is_for_good may_be_told o = nat_le 2048 o.ticks || (nat_le 16 o.ticks && not may_be_told)

@@ -1,6 +1,7 @@
 -- Whether another member is owed entries that are above this node's floor now, and would not be after a cut (docs/THREADS.md). Nothing that is
 -- claimed of a cluster rests on it.
 use Rattle.std.specs.Prelude.{ℕ, ◌-◌, ◌&&◌, ◌||◌, nat_lt, nat_le, Bool, false, true, if◌then◌else◌}
+use Rattle.serve_policy.specs.Gaining.{lacked_of}
 
 -- whether so many packets wait for the member that some may be lost; how long this node's log was when that was so last, or when the member asked
 -- late last: it is owed these entries, or none if this is 0; and since which beat
@@ -22,14 +23,14 @@ waiting_for beat waiting log d =
 -- whether a member is late that asks for what was learned from a slot on, of a node whose log has this length, and begins with a snapshot up to this
 -- floor: it waits for the snapshot, or lacks many entries
 abbrev pub is_late : ℕ → ℕ → ℕ → Bool
-is_late first log floor = nat_le first floor || nat_lt 1024 (log - (first - 1))
+is_late first log floor = nat_le first floor || nat_lt 1024 (lacked_of first log)
 
 -- at this beat the member asks so: it is late, or runs and is only slow, or has all entries before the slot
 abbrev pub asked_for : ℕ → ℕ → ℕ → ℕ → Owing → Owing
 asked_for beat first log floor d =
     if d.is_crowded || is_late first log floor then record d { owed = log; since = beat }
     else if nat_lt d.owed first then record d { owed = 0 }
-    else d
+    else record d { since = beat }
 
 -- whether a cut is put off at this beat for what the member is owed: for 2,560 beats
 abbrev pub is_owed : ℕ → Owing → Bool

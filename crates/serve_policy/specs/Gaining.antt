@@ -20,10 +20,14 @@ lacking beat log lacks l =
     else if is_marked log lacks l then record { log = log; mark = lacks; since = beat }
     else record l { log = log }
 
--- how many entries a node lacks that asks for what was learned from a slot on, of one whose log has this length, and begins with a snapshot up
--- to this floor: none if it waits for the snapshot. Once it has taken it, it is counted from there
+-- how many entries a node lacks that asks for what was learned from a slot on, of one whose log has this length
+abbrev pub lacked_of : ℕ → ℕ → ℕ
+lacked_of first log = log - (first - 1)
+
+-- for how many of them acts are held back, if the log begins with a snapshot up to this floor: for none if the node waits for the snapshot. Once
+-- it has taken it, it is counted from there
 abbrev pub lacked_from : ℕ → ℕ → ℕ → ℕ
-lacked_from first applied floor = if nat_le first floor then 0 else applied - (first - 1)
+lacked_from first applied floor = if nat_le first floor then 0 else lacked_of first applied
 
 -- at this beat a node asks so
 abbrev pub asking : ℕ → ℕ → ℕ → ℕ → Lack → Lack

@@ -4,7 +4,7 @@ use Rattle.std.specs.Prelude.{ℕ, ◌==◌, ◌&&◌, ◌||◌, suc, nat_lt, no
 use Rattle.serve_policy.specs.Behind.{ends_above}
 
 -- how long the node's log was when it heard the member last; whether the member has offered a snapshot that ends above that log; and for how many
--- ticks, at most 128, it was not heard
+-- ticks, at most 4,096, it was not heard
 pub record Source : Type 0 where
   pub log : ℕ
   pub has_offered : Bool
@@ -12,7 +12,7 @@ pub record Source : Type 0 where
 
 -- a member that was never heard
 abbrev pub unheard : Source
-unheard = record { log = 0; has_offered = false; quiet = 128 }
+unheard = record { log = 0; has_offered = false; quiet = 4096 }
 
 -- a packet of it came in a turn after which the log has this length; a snapshot that ends there, or another packet
 abbrev pub hearing : ℕ → Option ℕ → Source → Source
@@ -21,8 +21,8 @@ hearing log floor s =
 
 -- the node ticks
 abbrev pub passing : Source → Source
-passing s = record s { quiet = if nat_lt s.quiet 128 then suc s.quiet else s.quiet }
+passing s = record s { quiet = if nat_lt s.quiet 4096 then suc s.quiet else s.quiet }
 
 -- whether it may tell the entry after a log of this length: it was heard, and has not shown that it has that entry only in its snapshot
 abbrev pub may_tell : ℕ → Source → Bool
-may_tell log s = nat_lt s.quiet 128 && not ((log == s.log) && s.has_offered)
+may_tell log s = nat_lt s.quiet 4096 && not ((log == s.log) && s.has_offered)

@@ -8,7 +8,7 @@ use std::marker::Model;
 const LEAST_TICKS: u16 = 16;
 
 /// The same if one may.
-const MOST_TICKS: u16 = 256;
+const MOST_TICKS: u16 = 2048;
 
 /// Whether a node is behind for good. A clause sees how long its log was, whether a snapshot that ends above it was offered since the last
 /// tick, and after how many ticks one was since the log grew.
@@ -67,7 +67,7 @@ impl Behind {
     }
 
     /// Returns whether the node is behind for good: a snapshot was offered that ends above its log, and the log did not grow, in 16 ticks, or
-    /// in 256 if another member may still tell the entry after the log.
+    /// in 2,048 if another member may still tell the entry after the log.
     pub fn is_for_good(&self, may_be_told: bool) -> bool
         ensures { result ≡ is_for_good may_be_told self.now }
     {

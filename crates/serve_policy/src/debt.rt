@@ -2,13 +2,11 @@
 ghost use Rattle.std.specs.Prelude.{◌≡◌};
 ghost use Rattle.serve_policy.specs.Debt.{no_debt, waiting_for, is_late, asked_for, is_owed};
 
+use crate::gaining::{MOST_LACKED, lacked_of};
 use std::marker::Model;
 
 /// From how many packets that wait for a member on some may be lost: half as many as there is room for.
 const MANY_PACKETS: usize = 2048;
-
-/// The number of entries that a member may lack that is not late.
-const MOST_LACKED: u64 = 1024;
 
 /// The number of beats for which a cut is put off.
 const BEATS_OWED: u64 = 2560;
@@ -66,7 +64,8 @@ impl Debt {
 
     /// Notes that the member asks at this beat for what was learned from the slot `first` on, while this node's log has this length and is given up
     /// to `floor` by its snapshot. A member that asks for a slot at or below the floor, lacks more than 1,024 entries, or asks while 2,048 packets
-    /// wait for it, is owed all entries of the log. Another one that asks for a slot after what it was owed is owed nothing. Takes constant time.
+    /// wait for it, is owed all entries of the log. Another one that asks for a slot after what it was owed is owed nothing; one that asks for what it
+    /// is owed goes on to be owed that. Takes constant time.
     pub fn asks(&mut self, beat: u64, first: u64, log: u64, floor: u64)
         ensures { self.new ≡ asked_for beat first log floor self.old }
     {
@@ -75,10 +74,12 @@ impl Debt {
             self.since = beat;
         } else if first > self.owed {
             self.owed = 0;
+        } else {
+            self.since = beat;
         }
     }
 
-    /// Returns whether a cut is put off at this beat for what the member is owed: it is owed entries, and asked late less than 2,560 beats ago, or
+    /// Returns whether a cut is put off at this beat for what the member is owed: it is owed entries, and asked for them less than 2,560 beats ago, or
     /// 2,048 packets began to wait for it, or ceased to, less than 2,560 beats ago. Takes constant time.
     pub fn is_owed(&self, beat: u64) -> bool
         ensures { result ≡ is_owed beat self.now }
@@ -91,5 +92,5 @@ impl Debt {
 fn is_late(first: u64, log: u64, floor: u64) -> bool
     ensures { result ≡ is_late first log floor }
 {
-    first <= floor || log.saturating_sub(first.saturating_sub(1)) > MOST_LACKED
+    first <= floor || lacked_of(first, log) > MOST_LACKED
 }

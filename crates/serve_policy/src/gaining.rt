@@ -1,11 +1,11 @@
 // When acts are held back for another node that lacks many entries and gains.
 ghost use Rattle.std.specs.Prelude.{◌≡◌};
-ghost use Rattle.serve_policy.specs.Gaining.{asking, lacked_from, lacking, is_marked, is_gaining};
+ghost use Rattle.serve_policy.specs.Gaining.{asking, lacked_of, lacked_from, lacking, is_marked, is_gaining};
 
 use std::marker::Model;
 
-/// The number of entries that a node may lack before acts are held back for it.
-const MOST_LACKED: u64 = 1024;
+/// The number of entries that a node may lack and keep up all the same.
+pub(crate) const MOST_LACKED: u64 = 1024;
 
 /// The number of beats for which acts are held back for a node that does not gain.
 const BEATS_HELD: u64 = 512;
@@ -87,12 +87,19 @@ impl Gaining {
     }
 }
 
-// Returns how many entries a node lacks that asks so; none if it waits for the snapshot.
+// Returns how many entries a node lacks that asks so.
+pub(crate) fn lacked_of(first: u64, log: u64) -> u64
+    ensures { result ≡ lacked_of first log }
+{
+    log.saturating_sub(first.saturating_sub(1))
+}
+
+// Returns for how many of them acts are held back: for none if it waits for the snapshot.
 fn lacked_from(first: u64, applied: u64, floor: u64) -> u64
     ensures { result ≡ lacked_from first applied floor }
 {
     if first <= floor {
         return 0;
     }
-    applied.saturating_sub(first.saturating_sub(1))
+    lacked_of(first, applied)
 }

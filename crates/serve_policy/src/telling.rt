@@ -6,7 +6,7 @@ use crate::behind::ends_above;
 use std::marker::Model;
 
 /// After how many ticks without a packet of it a member is taken to tell nothing.
-const MOST_QUIET: u8 = 128;
+const MOST_QUIET: u16 = 4096;
 
 /// Whether another member may still tell a node the entry after its log. A clause sees how long that log was when the node heard the member
 /// last, whether the member has offered a snapshot that ends above it, and for how many ticks it was not heard.
@@ -17,7 +17,7 @@ const MOST_QUIET: u8 = 128;
 pub struct Telling {
     log: u64,
     has_offered: bool,
-    quiet: u8,
+    quiet: u16,
 }
 
 impl Model for Telling {
@@ -61,7 +61,7 @@ impl Telling {
         }
     }
 
-    /// Returns whether the member may tell the entry after a log of this length: a packet of it came in the last 128 ticks, and it has not
+    /// Returns whether the member may tell the entry after a log of this length: a packet of it came in the last 4,096 ticks, and it has not
     /// offered a snapshot that ends above that log. Takes constant time.
     pub fn may_tell(&self, log: u64) -> bool
         ensures { result ≡ may_tell log self.now }
