@@ -19,8 +19,8 @@ use stream_program::RunFault;
 /// Returns when the reader ends; a line `status` from it is answered by a line of each node on standard error. Fails with `Store` and the number
 /// of a node's fault (61 if its database does not open, 77 if the folder has the database of a node above the members, 78 if it is of another
 /// cluster), with `Memory`, or with `Transport`: 83 if a port cannot be listened on, 84 if a write failed.
-/// A node that is lost in its boot is not a fault: it begins its next boot, without its clients. So the number is never 73, nor 51 or 74, which
-/// end no node. Threads that wait for a connection, for a client or for the reader are left. (docs/ARCHITECTURE.md, "Threads".)
+/// A node that is lost in its boot, or too far behind, is not a fault: it begins its next boot, without its clients. So the number is never 73, nor
+/// 51 or 74, which end no node. Threads that wait for a connection, for a client or for the reader are left. (docs/ARCHITECTURE.md, "Threads".)
 pub fn serve_run<R, I, W, G>(
     rt: &R,
     host: &HostRuntime,

@@ -422,7 +422,7 @@ fn three_wait<R: Abort + Net<Listener = TcpListener, Stream = TcpStream>>(
 }
 
 // This happens at a node.
-fn happen<R: Abort + Net<Listener = TcpListener, Stream = TcpStream>>(
+fn happen<R: Clock + Abort + Net<Listener = TcpListener, Stream = TcpStream>>(
     rt: &R,
     alloc: Global,
     gate: &impl Gate,

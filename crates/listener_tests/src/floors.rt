@@ -12,9 +12,11 @@ use serve_connections::{Arrival, Lobby};
 use serve_feed::ClientFeed;
 use std::alloc::Global;
 use std::net::{Net, TcpListener, TcpStream};
+use std::panic::Expect;
 use std::process::Abort;
 use std::sync::Wait;
-use std::time::Clock;
+use std::thread;
+use std::time::{Clock, Duration, Instant};
 use test_checks::{check, check_eq};
 
 // A log with the floor 8,192: how many entries it has above that, how many packets wait for another node, from which slot on that node asks, if
@@ -271,31 +273,18 @@ fn one_is_held<R: Abort + Net<Listener = TcpListener, Stream = TcpStream>>(
     drop::<Client>(client);
 }
 
-// Whether a node hears of another one that may tell the next entry, and after how many ticks it is behind for good.
-#[derive(Clone, Copy)]
-pub struct Offered {
-    may_be_told: bool,
-    ticks: u16,
-}
+// After how many ticks with snapshots that it does not take a node is behind for good, if no other one may tell the next entry.
+const TICKS_BEHIND: u16 = 16;
 
-const OFFERED: &[Offered] = &[
-    Offered {
-        may_be_told: false,
-        ticks: 16,
-    },
-    Offered {
-        may_be_told: true,
-        ticks: 256,
-    },
-];
-
-// A node to which snapshots are offered that end above its log takes no further turn in its boot after this many ticks.
-fn falls_behind(
+// Snapshots that end above the node's log are offered at this many ticks, at which it is not behind yet. A node may tell the next entry, or none
+// may.
+fn is_offered(
     rt: &impl Abort,
     alloc: Global,
     gate: &impl Gate,
     feed: &mut ClientFeed<'_>,
-    offered: Offered,
+    ticks: u16,
+    may_be_told: bool,
 ) {
     let mut seen = quiet();
     seen.applied = 100;
@@ -305,20 +294,53 @@ fn falls_behind(
     let mut tells = seen;
     tells.from = Some(3);
     tells.heard = Some(Heard::Entries);
-    for tick in 0..offered.ticks {
+    for tick in 0..ticks {
         check!(rt; !feed.is_behind(), tick);
         gives(rt, alloc, gate, feed, &offers, "");
-        if offered.may_be_told {
+        if may_be_told {
             gives(rt, alloc, gate, feed, &tells, "");
         }
         comes(rt, alloc, gate, feed, &seen, "t");
     }
     gives(rt, alloc, gate, feed, &seen, "");
+}
+
+// A node that is behind for good takes no further turn in its boot.
+fn falls_behind(rt: &impl Abort, alloc: Global, gate: &impl Gate, feed: &mut ClientFeed<'_>) {
+    is_offered(rt, alloc, gate, feed, TICKS_BEHIND, false);
     check!(rt; feed.is_behind());
     check!(rt; !gate.pass(NODE, 1));
     feed.restart(BOOT + 1);
     check!(rt; !feed.is_behind());
     check!(rt; gate.pass(NODE, 1));
+}
+
+// A node goes on for longer while another one may tell the next entry.
+fn may_be_told(rt: &impl Abort, alloc: Global, gate: &impl Gate, feed: &mut ClientFeed<'_>) {
+    is_offered(rt, alloc, gate, feed, 2 * TICKS_BEHIND, true);
+    check!(rt; !feed.is_behind());
+    check!(rt; gate.pass(NODE, 1));
+}
+
+// A round with a cut takes 20 ms, so the next cut comes 380 ms after it at the earliest.
+fn rests<F: Feed<Act, Say>, G: Gate, R: Clock + Abort>(
+    rt: &R,
+    alloc: Global,
+    gate: &G,
+    feed: &mut F,
+) {
+    let mut seen = quiet();
+    seen.floor = 8192;
+    seen.applied = 12_288;
+    gives(rt, alloc, gate, feed, &seen, "");
+    gives(rt, alloc, gate, feed, &seen, "c");
+    thread::sleep(rt, Duration::from_millis(20));
+    seen.floor = seen.applied;
+    seen.applied = 16_384;
+    let began = Instant::now(rt).expect(rt, "a clock");
+    ticks_before(rt, alloc, gate, feed, &seen, "c");
+    let ended = Instant::now(rt).expect(rt, "a clock");
+    check!(rt; Duration::from_millis(380) <= ended.saturating_duration_since(began));
 }
 
 // What happens at a node.
@@ -332,12 +354,16 @@ pub enum AtFloor {
     Owes(Owed),
     // A client comes to a node that another one asks for entries.
     IsAsked(Asks),
-    // Snapshots come that the node does not take.
-    FallsBehind(Offered),
+    // Snapshots come that the node does not take, and no other node may tell.
+    FallsBehind,
+    // The same while another one may.
+    MayBeTold,
+    // The log is long again after a cut.
+    Rests,
 }
 
 // This happens at a node.
-pub fn happen_at_floor<R: Abort + Net<Listener = TcpListener, Stream = TcpStream>>(
+pub fn happen_at_floor<R: Clock + Abort + Net<Listener = TcpListener, Stream = TcpStream>>(
     rt: &R,
     alloc: Global,
     gate: &impl Gate,
@@ -351,7 +377,9 @@ pub fn happen_at_floor<R: Abort + Net<Listener = TcpListener, Stream = TcpStream
         AtFloor::PutsOff => puts_off(rt, alloc, gate, feed),
         AtFloor::Owes(owed) => owes(rt, alloc, gate, feed, owed),
         AtFloor::IsAsked(asks) => one_is_held(rt, alloc, gate, feed, lobby, arrivals, asks),
-        AtFloor::FallsBehind(offered) => falls_behind(rt, alloc, gate, feed, offered),
+        AtFloor::FallsBehind => falls_behind(rt, alloc, gate, feed),
+        AtFloor::MayBeTold => may_be_told(rt, alloc, gate, feed),
+        AtFloor::Rests => rests(rt, alloc, gate, feed),
     }
 }
 
@@ -392,7 +420,15 @@ fn holds_no_act_back_for_a_node_that_waits_for_a_snapshot(rt: HostRuntime) {
 
 #[test]
 fn takes_no_turn_once_it_is_behind_for_good(rt: HostRuntime) {
-    for offered in OFFERED {
-        play(&rt, rt.alloc(), AtFloor::FallsBehind(*offered));
-    }
+    play(&rt, rt.alloc(), AtFloor::FallsBehind);
+}
+
+#[test]
+fn goes_on_for_longer_while_another_node_may_tell(rt: HostRuntime) {
+    play(&rt, rt.alloc(), AtFloor::MayBeTold);
+}
+
+#[test]
+fn rests_19_times_as_long_as_a_cut_took(rt: HostRuntime) {
+    play(&rt, rt.alloc(), AtFloor::Rests);
 }

@@ -49,7 +49,6 @@ turn_of seen before beats = record {
 }
 
 -- where a snapshot ends that came in the turn, if one came
-
 abbrev pub ends_at : Heard → Option ℕ
 ends_at (heard.Prepare ballot) = None
 ends_at (heard.Ballot ballot) = None

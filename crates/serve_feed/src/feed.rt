@@ -10,13 +10,15 @@ ghost use Rattle.serve_feed.specs.Saw.{Saw};
 ghost use Rattle.serve_feed.specs.Hears.{Hear};
 ghost use Rattle.serve_feed.specs.Says.{item_of, said_one, said_to};
 
+mod watching;
+
 use crate::held::Held;
 use crate::home::Home;
 use crate::lanes::Lanes;
 use crate::pace::Pace;
 use crate::peers::Peers;
-use crate::signs::{entries_above, lacks_entries, offered_in, turn_of};
-use crate::waking::{say_waits, wake_peers};
+use crate::signs::lacks_entries;
+use crate::waking::wake_peers;
 use actor_run::{Feed, Seen};
 use client_listener::ToClient;
 use paxos_node::Event;
@@ -25,14 +27,15 @@ use realm_acts::Act;
 use realm_machine::{Out, Say};
 use rtrb::Consumer;
 use serve_connections::{Arrival, Lobby};
-use serve_policy::{Admission, Behind, Commits, Draws, Due, Sign, Ticks, is_long};
+use serve_policy::{Admission, Behind, Commits, Draws, Due, Ticks};
 use std::alloc::Global;
 use std::sync::Arc;
 
 /// How many arrivals are taken in a round at the most: as many as their ring has room for.
 const MOST_ARRIVALS: u8 = 64;
 
-/// The events of a node in one boot: what its clients do, ticks, ballots and suspicions; and the way of its sayings to their clients.
+/// The events of a node in one boot: what its clients do, ticks, ballots, suspicions and cuts of its log; and the way of its sayings to their
+/// clients.
 ///
 /// A round in which no thread stirred the node costs some loads. A client's request costs constant time, and a removed connection as many moves
 /// as there are connections; each time the node was stirred, each connection's ring is asked once. Messages are moved, not copied. After an
@@ -272,24 +275,6 @@ impl<'a> ClientFeed<'a> {
         self.round.is_busy = false;
     }
 
-    // Counts time by what the last turn brought.
-    fn count_time(&mut self, seen: &Seen)
-        ensures node { self.new.node ≡ self.old.node }
-        ensures sources { self.new.lanes.sources ≡ self.old.lanes.sources }
-    {
-        let turn = turn_of(seen, self.boot.promised, self.pace.due());
-        self.boot.promised = seen.promised;
-        if self.boot.ticks.count(turn) {
-            self.pace.counted();
-            self.round.may_be_due = true;
-        }
-        if matches!(turn.sign, Sign::Refused { .. } | Sign::Told) {
-            self.round.may_be_due = true;
-        }
-        self.pace
-            .set_quick(seen.pending || self.boot.peers.holds_acts());
-    }
-
     // Looks into the node's rings if a thread has put something there.
     fn take_stirred(&mut self)
         ensures node { self.new.node ≡ self.old.node }
@@ -312,49 +297,6 @@ impl<'a> ClientFeed<'a> {
             self.take_stirred();
         }
         is_woken
-    }
-
-    // Notes how long the commits of the last round took. One with a cut says nothing of others.
-    fn note_commits(&mut self, seen: &Seen)
-        ensures node { self.new.node ≡ self.old.node }
-        ensures sources { self.new.lanes.sources ≡ self.old.lanes.sources }
-    {
-        let commits = seen.commits.wrapping_sub(self.round.commits);
-        self.round.commits = seen.commits;
-        if self.round.is_cut {
-            return;
-        }
-        self.boot
-            .commits
-            .note(self.pace.took(), u32::try_from(commits).unwrap_or(0));
-    }
-
-    // Notes how long commits take and how the other members get on, and says in the node's lobby for which of them its packets wait.
-    fn watch(&mut self, seen: &Seen)
-        ensures node { self.new.node ≡ self.old.node }
-        ensures sources { self.new.lanes.sources ≡ self.old.lanes.sources }
-    {
-        self.note_commits(seen);
-        let beat = self.boot.ticks.beats();
-        if self.boot.peers.watch(beat, self.boot.commits.beats(), seen) {
-            say_waits(self.lobby, self.members, &seen.waiting);
-        }
-    }
-
-    // Judges whether the node's log is cut in this round, and whether the node is behind for good.
-    fn watch_log(&mut self, seen: &Seen)
-        ensures node { self.new.node ≡ self.old.node }
-        ensures sources { self.new.lanes.sources ≡ self.old.lanes.sources }
-    {
-        let peers = &self.boot.peers;
-        let is_wanted = is_long(entries_above(seen), peers.most_waiting(), peers.is_owed());
-        self.round.is_cutting = self.pace.wants_cut(is_wanted);
-        self.round.is_cut = false;
-        self.boot.behind.see(seen.applied, offered_in(seen.heard));
-        let may_be_told = self.boot.peers.may_tell(seen.applied);
-        if self.boot.behind.is_for_good(may_be_told) {
-            self.pace.gives_up();
-        }
     }
 
     // Notes that something happens in this round: no rest comes before the turn that follows is counted.
