@@ -1,6 +1,7 @@
 -- From which log a machine goes on, by what its node commits: from the one that it has followed, whose entries it forgets if the node rests on a
 -- snapshot of it; or from one that is made of a snapshot which the node takes (docs/CONSENSUS.md, "A node with its store").
-use Rattle.std.specs.Prelude.{◌≡◌, ℕ, Bool, false, Option, Some, None, is_none, IsSomeAnd, List, []}
+use Rattle.std.specs.Prelude.{◌≡◌, ℕ, Bool, false, Option, Some, None, is_none, option_map, IsSomeAnd, List, []}
+use Rattle.std.specs.Global.{Box}
 use Rattle.paxos_packets.specs.Snapshot.{Snapshot, floor_in}
 use Rattle.paxos_acceptor.specs.Acceptor as accepting
 use Rattle.paxos_planning.specs.Node.{NodeState}
@@ -21,6 +22,10 @@ IsMadeOf content loaded None (Some log) = ⊥
 IsMadeOf content loaded (Some s) None = ⊥
 IsMadeOf content loaded (Some s) (Some log) =
     IsSomeAnd (loaded_log loaded s.octets) (λ kept. IsLoaded content kept log) × (log.floor ≡ s.floor)
+
+-- what the box holds, if there is one
+abbrev pub unboxed : {X : Type 0} → Option (Box X) → Option X
+unboxed made = option_map (λ b. b.value) made
 
 -- the log from which the machine goes on: one that was made; or the one that there is, cut if its node rests on a snapshot
 abbrev pub base_log : {B M : Type 0} → Option (LogState B M) → Option Snapshot → LogState B M → LogState B M

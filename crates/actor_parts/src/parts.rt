@@ -11,7 +11,7 @@ ghost use Rattle.paxos_proposer.specs.Proposer.{is_leading};
 ghost use Rattle.actor_outboxes.specs.Outboxes.{HasLimits, IsPeer, TakenFor, WaitsFirst, most_waiting, waiting};
 ghost use Rattle.actor_parts.specs.Parts.{Parted, IsPrefixOf, first_parts, open_slots};
 ghost use Rattle.actor_parts.specs.Steps.{IsAtEnd, Applied, Falls, OnlyNode, OnlyKeeper, OnlyLog, OnlyWaiting, Adopts};
-ghost use Rattle.actor_parts.specs.Snapshots.{base_log, is_no_log, IsMadeOf};
+ghost use Rattle.actor_parts.specs.Snapshots.{base_log, is_no_log, unboxed, IsMadeOf};
 ghost use Rattle.paxos_node.specs.Snapshots.{may_cut};
 ghost use Rattle.paxos_node.specs.declared.event.Event.TheVariants.{Cut};
 ghost use Rattle.paxos_packets.specs.Snapshot.{floor_in, snapshot_of};
@@ -283,8 +283,8 @@ impl<M: Machine, K: Keeper<M::Body>> Parts<M, K> {
     }
 
     /// Returns the log that is made of the snapshot which the outcome commits, if it commits one.
-    pub fn load(&self, outcome: &Outcome<M::Body>) -> Result<Option<AppliedLog<M>>, LoadFault>
-        ensures made { IfOk result (λ made. IsMadeOf M.content M.loaded outcome.now.change.snapshot made) }
+    pub fn load(&self, outcome: &Outcome<M::Body>) -> Result<Option<Box<AppliedLog<M>>>, LoadFault>
+        ensures made { IfOk result (λ made. IsMadeOf M.content M.loaded outcome.now.change.snapshot (unboxed made)) }
         ensures damaged { IsErrOf result LoadFault.Damaged → is_no_log M.loaded outcome.now.change.snapshot ≡ true }
     {
         load_log(self.alloc, &outcome.change.snapshot)
@@ -292,12 +292,12 @@ impl<M: Machine, K: Keeper<M::Body>> Parts<M, K> {
 
     /// Lets the machine go on where the node does that has committed this outcome: from the log that is made of the snapshot which the node
     /// takes; else from the one that there is, which is cut if the node rests on a snapshot of it.
-    pub fn go_from(&mut self, outcome: &Outcome<M::Body>, made: Option<AppliedLog<M>>)
-        ensures log { self.new.log ≡ base_log made outcome.now.change.snapshot self.old.log }
+    pub fn go_from(&mut self, outcome: &Outcome<M::Body>, made: Option<Box<AppliedLog<M>>>)
+        ensures log { self.new.log ≡ base_log (unboxed made) outcome.now.change.snapshot self.old.log }
         ensures rest { OnlyLog self.old self.new }
     {
         if let Some(made) = made {
-            self.log = made;
+            self.log = Box::into_inner(made);
             return;
         }
         if outcome.change.snapshot.is_some() {

@@ -10,7 +10,7 @@ ghost use Rattle.replica_machine.specs.Given.{AreGiven};
 ghost use Rattle.replica_machine.specs.Log.{IsLogOf, length_in, machine_from};
 ghost use Rattle.cluster_world.specs.MemberSnapshots.{own_cut, LoadsSaved};
 ghost use Rattle.actor_parts.specs.Parts.{IsPlan, IsSound};
-ghost use Rattle.actor_parts.specs.Snapshots.{base_log, is_no_log, IsBase};
+ghost use Rattle.actor_parts.specs.Snapshots.{base_log, is_no_log, unboxed, IsBase};
 ghost use Rattle.actor_parts.specs.Steps.{StaysWho, IsAtEnd, TakesIn};
 ghost use Rattle.mail_table.specs.Boxes.{Follows, Received};
 ghost use Rattle.mail_table.specs.Seats.{Owns};
@@ -274,7 +274,7 @@ fn carry_out<M: Machine, K: Keeper<M::Body>>(
     seat: &mut NodeSeat<M::Body>,
     parts: &mut Parts<M, K>,
     outcome: Outcome<M::Body>,
-    made: Option<AppliedLog<M>>,
+    made: Option<Box<AppliedLog<M>>>,
 ) -> Result<Vec<M::Say>, ActorFault<M::Say>>
     requires owned { Owns mail.now seat.old }
     requires sound { IsSound M.Body.same K.holds K.is_failed parts.old }
@@ -282,13 +282,13 @@ fn carry_out<M: Machine, K: Keeper<M::Body>>(
     requires serving { parts.old.spoiled ≡ false }
     requires plan { IsPlan M.Body.same parts.old.node.me parts.old.node.members parts.old.node.state outcome }
     requires follows { Follows M.Body.same seat.old.members seat.old.part outcome }
-    requires base { IsBase outcome parts.old.node.state (base_log made outcome.change.snapshot parts.old.log) }
+    requires base { IsBase outcome parts.old.node.state (base_log (unboxed made) outcome.change.snapshot parts.old.log) }
     ensures owned { Owns mail.now seat.new }
     ensures sound { IsSound M.Body.same K.holds K.is_failed parts.new }
     ensures seated { IsSeated M.Body.same (acting parts.new seat.new) }
     ensures stays { StaysAt seat.old seat.new }
     ensures who { StaysWho parts.old parts.new }
-    ensures did { CarriesOut M.steps M.content K.holds K.finds K.failures (base_log made outcome.change.snapshot parts.old.log) outcome
+    ensures did { CarriesOut M.steps M.content K.holds K.finds K.failures (base_log (unboxed made) outcome.change.snapshot parts.old.log) outcome
         (acting parts.old seat.old) (acting parts.new seat.new) result }
 {
     if !seat.may_advance() {

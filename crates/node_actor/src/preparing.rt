@@ -157,7 +157,7 @@ fn first_log<M: Machine>(
     match load_log(alloc, &rows.snapshot) {
         Ok(Some(made)) => {
             drop(machine);
-            Ok(made)
+            Ok(Box::into_inner(made))
         },
         Ok(None) => Ok(AppliedLog::new(alloc, machine)),
         Err(LoadFault::Damaged) => {

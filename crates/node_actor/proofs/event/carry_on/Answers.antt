@@ -1,6 +1,7 @@
 -- The machine is made of the snapshot that the node takes.
 use Rattle.std.proofs.Common.{◌≡◌, Err, ap, refl, rules}
 use Rattle.replica_machine.specs.declared.fault.LoadFault.TheVariants as load
+use Rattle.actor_parts.specs.Snapshots.{unboxed}
 use Rattle.actor_parts.proofs.Basing.{base_made}
 use Rattle.actor_parts.proofs.Carrying.{spoiled_sound}
 use Rattle.node_actor.specs.Steps.{makes_none, makes_stop, carries}
@@ -11,10 +12,10 @@ use Rattle.node_actor.proofs.event.carry_on.Goals as goal
 pub carry_out-requires-clause-base : goal.carry_out-requires-clause-base
 carry_out-requires-clause-base g c =
     base_made g.M.Machine.content g.M.Machine.loaded g.K.Keeper.holds g.K.Keeper.is_failed c.args.parts.now c.args.outcome
-    (c.requires.sound.serves c.requires.serving) c.in-Ok.made c.in-Ok.ensures.made
+    (c.requires.sound.serves c.requires.serving) (unboxed c.in-Ok.made) c.in-Ok.ensures.made
 
 pub returns-in-Ok-clause-did : goal.returns-in-Ok-clause-did
-returns-in-Ok-clause-did g c = carries c.in-Ok.made c.carry_out.result c.in-Ok.ensures.made c.carry_out.ensures.did
+returns-in-Ok-clause-did g c = carries (unboxed c.in-Ok.made) c.carry_out.result c.in-Ok.ensures.made c.carry_out.ensures.did
 
 pub returns-in-Err-Damaged-clause-sound : goal.returns-in-Err-Damaged-clause-sound
 returns-in-Err-Damaged-clause-sound g c =

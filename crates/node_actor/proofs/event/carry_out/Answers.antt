@@ -1,7 +1,7 @@
 use Rattle.std.proofs.Common.{◌≡◌, true, false, ap, sym, subst, ◌∙◌, rules}
 use Rattle.replica_machine.specs.Log.{LogState}
 use Rattle.paxos_node.specs.Adopting.{Fits}
-use Rattle.actor_parts.specs.Snapshots.{base_log}
+use Rattle.actor_parts.specs.Snapshots.{base_log, unboxed}
 use Rattle.actor_parts.proofs.Carrying.{Roomed, Ready, stopped_sound, fallen_sound, spoiled_sound, ready, based}
 use Rattle.node_actor.specs.Steps.{may_advance}
 use Rattle.node_actor.proofs.Carrying.{stopped, worn_out, fallen, carried_on, sound_on}
@@ -20,7 +20,7 @@ returns-then-not-may_advance-clause-seated g c =
 pub returns-then-not-may_advance-clause-did : goal.returns-then-not-may_advance-clause-did
 returns-then-not-may_advance-clause-did g c =
     let worn : may_advance c.args.seat.now ≡ false = search rules in
-    rw c.spoil.ensures (worn_out _ _ _ _ _ _ (base_log c.args.made c.args.outcome.change.snapshot c.args.parts.now.log) c.args.outcome
+    rw c.spoil.ensures (worn_out _ _ _ _ _ _ (base_log (unboxed c.args.made) c.args.outcome.change.snapshot c.args.parts.now.log) c.args.outcome
     c.args.parts.now c.args.seat.now worn (c.requires.sound.serves c.requires.serving))
 
 pub returns-in_default-clause-sound : goal.returns-in_default-clause-sound
@@ -70,13 +70,13 @@ take_over-requires-clause-fits g c =
 pub take_over-requires-clause-alive : goal.take_over-requires-clause-alive
 take_over-requires-clause-alive g c =
     ap (λ (log : LogState g.row.M-Body.Denot g.row.M.Denot). log.failed) (c.go_from.ensures.log
-    ∙ ap (λ log. base_log c.args.made c.args.outcome.change.snapshot log) (c.commit.ensures.rest.log ∙ c.make_room.ensures.rest.log))
+    ∙ ap (λ log. base_log (unboxed c.args.made) c.args.outcome.change.snapshot log) (c.commit.ensures.rest.log ∙ c.make_room.ensures.rest.log))
     ∙ c.requires.base.alive
 
 pub take_over-requires-clause-end : goal.take_over-requires-clause-end
 take_over-requires-clause-end g c =
     ap (λ (log : LogState g.row.M-Body.Denot g.row.M.Denot). log.ahead) (c.go_from.ensures.log
-    ∙ ap (λ log. base_log c.args.made c.args.outcome.change.snapshot log) (c.commit.ensures.rest.log ∙ c.make_room.ensures.rest.log))
+    ∙ ap (λ log. base_log (unboxed c.args.made) c.args.outcome.change.snapshot log) (c.commit.ensures.rest.log ∙ c.make_room.ensures.rest.log))
     ∙ c.requires.base.ahead
 
 pub returns-in-Err-clause-sound : goal.returns-in-Err-clause-sound
@@ -112,7 +112,7 @@ returns-in-Err-clause-did g c =
       rest = c.make_room.ensures.rest;
     } in
     let may : may_advance c.args.seat.now ≡ true = search rules in
-    rw c.spoil_at.ensures (fallen _ _ _ _ _ _ (base_log c.args.made c.args.outcome.change.snapshot c.args.parts.now.log)
+    rw c.spoil_at.ensures (fallen _ _ _ _ _ _ (base_log (unboxed c.args.made) c.args.outcome.change.snapshot c.args.parts.now.log)
     c.args.outcome c.args.parts.now c.make_room.new.self c.commit.new.self c.args.seat.now c.in-Err.fault may
     (c.requires.sound.serves c.requires.serving) room c.commit.ensures.rest c.in-Err.ensures.falls)
 
@@ -125,14 +125,14 @@ returns-in-Ok-commit-clause-sound g c =
       rest = c.make_room.ensures.rest;
     } in
     let serving = c.requires.sound.serves c.requires.serving in
-    let base = base_log c.args.made c.args.outcome.change.snapshot c.args.parts.now.log in
+    let base = base_log (unboxed c.args.made) c.args.outcome.change.snapshot c.args.parts.now.log in
     let is_ready : Ready g.K.Keeper.holds g.K.Keeper.is_failed base c.args.outcome c.args.parts.now c.go_from.new.self =
     based g.K.Keeper.holds g.K.Keeper.is_failed base c.args.outcome c.args.parts.now c.commit.new.self c.go_from.new.self
     (ready g.K.Keeper.holds g.K.Keeper.is_failed c.args.outcome c.args.parts.now c.make_room.new.self c.commit.new.self room
     c.commit.ensures.rest serving.held
     serving.whole c.in-Ok-commit.ensures.ok c.in-Ok-commit.ensures.whole) c.go_from.ensures.rest
     (c.go_from.ensures.log
-    ∙ ap (λ log. base_log c.args.made c.args.outcome.change.snapshot log) (c.commit.ensures.rest.log ∙ c.make_room.ensures.rest.log)) in
+    ∙ ap (λ log. base_log (unboxed c.args.made) c.args.outcome.change.snapshot log) (c.commit.ensures.rest.log ∙ c.make_room.ensures.rest.log)) in
     sound_on g.M.Machine.steps g.M.Machine.content g.K.Keeper.holds g.K.Keeper.finds
     g.K.Keeper.failures g.K.Keeper.is_failed
     g.M.Body.Body.same base c.args.outcome c.args.parts.now c.go_from.new.self c.take_over.new.self c.args.seat.now c.requires.sound serving
@@ -148,14 +148,14 @@ returns-in-Ok-commit-clause-seated g c =
       rest = c.make_room.ensures.rest;
     } in
     let serving = c.requires.sound.serves c.requires.serving in
-    let base = base_log c.args.made c.args.outcome.change.snapshot c.args.parts.now.log in
+    let base = base_log (unboxed c.args.made) c.args.outcome.change.snapshot c.args.parts.now.log in
     let is_ready : Ready g.K.Keeper.holds g.K.Keeper.is_failed base c.args.outcome c.args.parts.now c.go_from.new.self =
     based g.K.Keeper.holds g.K.Keeper.is_failed base c.args.outcome c.args.parts.now c.commit.new.self c.go_from.new.self
     (ready g.K.Keeper.holds g.K.Keeper.is_failed c.args.outcome c.args.parts.now c.make_room.new.self c.commit.new.self room
     c.commit.ensures.rest serving.held
     serving.whole c.in-Ok-commit.ensures.ok c.in-Ok-commit.ensures.whole) c.go_from.ensures.rest
     (c.go_from.ensures.log
-    ∙ ap (λ log. base_log c.args.made c.args.outcome.change.snapshot log) (c.commit.ensures.rest.log ∙ c.make_room.ensures.rest.log)) in
+    ∙ ap (λ log. base_log (unboxed c.args.made) c.args.outcome.change.snapshot log) (c.commit.ensures.rest.log ∙ c.make_room.ensures.rest.log)) in
     seated_on g.M.Body.Body.same g.M.Machine.steps g.M.Machine.content g.K.Keeper.holds
     g.K.Keeper.is_failed
     base c.args.outcome c.args.parts.now c.go_from.new.self c.take_over.new.self c.args.seat.now c.step.new.seat c.step.ensures.advanced
@@ -171,14 +171,14 @@ returns-in-Ok-commit-clause-did g c =
       rest = c.make_room.ensures.rest;
     } in
     let serving = c.requires.sound.serves c.requires.serving in
-    let base = base_log c.args.made c.args.outcome.change.snapshot c.args.parts.now.log in
+    let base = base_log (unboxed c.args.made) c.args.outcome.change.snapshot c.args.parts.now.log in
     let is_ready : Ready g.K.Keeper.holds g.K.Keeper.is_failed base c.args.outcome c.args.parts.now c.go_from.new.self =
     based g.K.Keeper.holds g.K.Keeper.is_failed base c.args.outcome c.args.parts.now c.commit.new.self c.go_from.new.self
     (ready g.K.Keeper.holds g.K.Keeper.is_failed c.args.outcome c.args.parts.now c.make_room.new.self c.commit.new.self room
     c.commit.ensures.rest serving.held
     serving.whole c.in-Ok-commit.ensures.ok c.in-Ok-commit.ensures.whole) c.go_from.ensures.rest
     (c.go_from.ensures.log
-    ∙ ap (λ log. base_log c.args.made c.args.outcome.change.snapshot log) (c.commit.ensures.rest.log ∙ c.make_room.ensures.rest.log)) in
+    ∙ ap (λ log. base_log (unboxed c.args.made) c.args.outcome.change.snapshot log) (c.commit.ensures.rest.log ∙ c.make_room.ensures.rest.log)) in
     let may : may_advance c.args.seat.now ≡ true = search rules in
     carried_on g.M.Machine.steps g.M.Machine.content g.K.Keeper.holds g.K.Keeper.finds
     g.K.Keeper.failures g.K.Keeper.is_failed
