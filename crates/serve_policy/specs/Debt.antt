@@ -4,7 +4,7 @@ use Rattle.std.specs.Prelude.{ℕ, ◌-◌, ◌&&◌, ◌||◌, nat_lt, nat_le, 
 use Rattle.serve_policy.specs.Gaining.{lacked_of}
 
 -- whether so many packets wait for the member that some may be lost; how long this node's log was when that was so last, or when the member asked
--- late last: it is owed these entries, or none if this is 0; and since which beat
+-- late last: it is owed these entries, or none if this is 0; and the beat from which that is counted
 pub record Owing : Type 0 where
   pub is_crowded : Bool
   pub owed : ℕ
@@ -25,7 +25,8 @@ waiting_for beat waiting log d =
 abbrev pub is_late : ℕ → ℕ → ℕ → Bool
 is_late first log floor = nat_le first floor || nat_lt 1024 (lacked_of first log)
 
--- at this beat the member asks so: it is late, or runs and is only slow, or has all entries before the slot
+-- at this beat the member asks so. If it is late, it is owed all entries of now; if it has all that it was owed, nothing any more; if it asks for
+-- some of what it is owed, it goes on to be owed that, counted anew from this beat
 abbrev pub asked_for : ℕ → ℕ → ℕ → ℕ → Owing → Owing
 asked_for beat first log floor d =
     if d.is_crowded || is_late first log floor then record d { owed = log; since = beat }
