@@ -1,1 +1,2 @@
-mod Filing
+pub mod Filing
+pub mod Dues

@@ -1,7 +1,10 @@
 -- The packets of a node that wait to be sent (docs/CONSENSUS.md, "A node with its store").
-use Rattle.std.specs.Prelude.{◌≡◌, ◌<◌, ◌≤◌, ℕ, suc, zero, ◌||◌, ◌==◌, nat_lt, Option, Some, None, option_map, List, [], ◌∷◌, ◌++◌}
+use Rattle.std.specs.Prelude.{◌≡◌, ◌<◌, ◌≤◌, ℕ, suc, zero, ◌+◌, ◌||◌, ◌&&◌, ◌==◌, nat_lt, Bool, true, false, not, Option, Some, None, option_map, List, [], ◌∷◌, ◌++◌}
 use Rattle.std.specs.Prelude.{All, length, filter, map, drop, slice_get, slice_index_or, slice_set, if◌then◌else◌}
 use Rattle.circular_buffer.specs.Buffer.{Buffer, buffer, keep_last}
+use Rattle.std.specs.List.{list_any}
+use Rattle.paxos_packets.specs.declared.packet.Kind.{Kind}
+use Rattle.paxos_packets.specs.declared.packet.Kind.TheVariants.{Forward}
 use Rattle.paxos_packets.specs.declared.packet.Packet.{Packet}
 use Rattle.paxos_packets.specs.Members.{IsMember}
 use Rattle.actor_outboxes.specs.declared.outboxes.Stamped.{Stamped}
@@ -111,3 +114,41 @@ pub record Leaves {B : Type 0} (p : Packet B) (old new : Waiting B) : Type 0 whe
   pub stamp : ℕ
   pub stamped : first_stamp (box_of p.addressee old.boxes) ≡ Some stamp
   pub oldest : (k t : ℕ) → first_stamp (box_of k old.boxes) ≡ Some t → stamp ≤ t
+
+-- of packets that go together a Forward gives way to a later one, which says what it said
+
+abbrev pub is_forward_in : {B : Type 0} → Kind B → Bool
+is_forward_in (Forward entries) = true
+is_forward_in _ = false
+
+abbrev pub is_forward : {B : Type 0} → Packet B → Bool
+is_forward p = is_forward_in p.kind
+
+abbrev pub due_of : {B : Type 0} → List (Packet B) → List (Packet B)
+due_of [] = []
+due_of (p ∷ ps) = (if is_forward p && list_any is_forward ps then [] else p ∷ []) ++ due_of ps
+
+-- the oldest packets for a node wait no longer, of which these are due: at least one, and so many at most. So more room is left than they take
+pub record ManyTaken {B : Type 0} (k most : ℕ) (due : List (Packet B)) (old new : Waiting B) : Type 0 where
+  pub peer : IsPeer old.me old.members k
+  pub addressed : All (λ p. p.addressee ≡ k) due
+  pub front : List (Packet B)
+  pub first : waiting k old ≡ front ++ waiting k new
+  pub are_due : due ≡ due_of front
+  pub short : length due ≤ most
+  pub others : (j : ℕ) → (j ≡ k → ⊥) → waiting j new ≡ waiting j old
+  pub room : length due + length (waiting k new) ≤ most_waiting
+
+-- the same, or nothing was taken
+abbrev pub MayTake : {B : Type 0} → ℕ → ℕ → List (Packet B) → Waiting B → Waiting B → Type 0
+MayTake k most [] old new = new ≡ old
+MayTake k most (p ∷ ps) old new = ManyTaken k most (p ∷ ps) old new
+
+-- of the packets that a packet goes after, Forwards give way to it if it is one
+abbrev pub giving_way : {B : Type 0} → Packet B → List (Packet B) → List (Packet B)
+giving_way p ps = if is_forward p then filter (λ q. not (is_forward q)) ps else ps
+
+-- the packets wait before the others for their addressee
+pub record WaitFirst {B : Type 0} (k : ℕ) (ps : List (Packet B)) (old new : Waiting B) : Type 0 where
+  pub first : waiting k new ≡ ps ++ waiting k old
+  pub others : (j : ℕ) → (j ≡ k → ⊥) → waiting j new ≡ waiting j old

@@ -1,10 +1,11 @@
 // A node's outboxes: how packets are put after the others or before them, and taken oldest first, for all peers or for one.
-ghost use Rattle.std.specs.Prelude.{◌≡◌, ◌<◌, ℕ, suc, [], ◌∷◌, length, slice_get, IfOk, IfSome, IfNone, MatchOption, Some};
+ghost use Rattle.std.specs.Prelude.{◌≡◌, ◌<◌, ◌≤◌, ◌+◌, ◌++◌, ℕ, suc, [], ◌∷◌, length, slice_get, IfOk, IfSome, IfNone, MatchOption, Some, All, filter, not, vec_len, vec_capacity};
 ghost use Rattle.actor_outboxes.specs.Outboxes.{empty_boxes, limit, box_of, waiting, filed, without_first, HasLimits, WaitBehind, Leaves};
 ghost use Rattle.actor_outboxes.specs.Outboxes.{first_stamp, older, IsOldestBelow, IsPeer, TakenFor, WaitsFirst, filed_first, most_waiting};
+ghost use Rattle.actor_outboxes.specs.Outboxes.{is_forward, giving_way, ManyTaken, MayTake, WaitFirst};
 
 use circular_buffer::HeapCircularBuffer;
-use paxos_packets::{Members, Memory, Packet};
+use paxos_packets::{Kind, Members, Memory, Packet};
 use std::alloc::Global;
 use std::marker::Model;
 
@@ -151,6 +152,80 @@ impl<B: Drop> Outboxes<B> {
         Some(packet_of(stamped))
     }
 
+    /// Takes the oldest packets that wait for this node, if any do: up to `most` of them, which has to be at least one, but for Forwards after
+    /// which another one is taken. Returns the first one, and those after it in order. Takes fewer if running out of memory forbids more.
+    pub fn take_many(
+        &mut self,
+        alloc: Global,
+        peer: u8,
+        most: usize,
+    ) -> Option<(Packet<B>, Vec<Packet<B>>)>
+        requires some { 1 ≤ most }
+        ensures me { self.new.me ≡ self.old.me }
+        ensures members { self.new.members ≡ self.old.members }
+        ensures none { IfNone result ((self.new ≡ self.old) × (waiting peer self.old ≡ [])) }
+        ensures some { IfSome result (λ t. ManyTaken peer most (t.0 ∷ t.1.items) self.old self.new) }
+    {
+        let mut rest = Vec::new(alloc);
+        self.take_into(&mut rest, peer, most);
+        if let Some(first) = remove_first(&mut rest) {
+            return Some((first, rest));
+        }
+        let Some(packet) = self.take_for(peer) else {
+            return None;
+        };
+        Some((packet, rest))
+    }
+
+    // Takes up to `most` of the oldest packets that wait for this node into an empty list, but for Forwards after which another one is taken.
+    // Takes fewer if running out of memory forbids more.
+    fn take_into(&mut self, list: &mut Vec<Packet<B>>, peer: u8, most: usize)
+        requires empty { list.old.items ≡ [] }
+        ensures me { self.new.me ≡ self.old.me }
+        ensures members { self.new.members ≡ self.old.members }
+        ensures taken { MayTake peer most list.new.items self.old self.new }
+    {
+        self.limits(); // for the proof
+        for _turn in 0..most {
+            if list.reserve(1).is_err() {
+                return;
+            }
+            let Some(packet) = self.take_for(peer) else {
+                return;
+            };
+            put_due(list, packet);
+        }
+    }
+
+    /// Puts packets before the others for their addressee, in order, as some that were taken and could not go. There must be room for them. Does
+    /// not allocate.
+    pub fn put_back_all(&mut self, peer: u8, first: Packet<B>, rest: Vec<Packet<B>>)
+        requires peer { IsPeer self.old.me self.old.members peer }
+        requires addressed { All (λ p. p.addressee ≡ peer) (first ∷ rest.items) }
+        requires room { 1 + length rest.items + length (waiting peer self.old) ≤ most_waiting }
+        ensures me { self.new.me ≡ self.old.me }
+        ensures members { self.new.members ≡ self.old.members }
+        ensures first { WaitFirst peer (first ∷ rest.items) self.old self.new }
+    {
+        self.put_back_each(peer, rest);
+        self.put_back(first);
+    }
+
+    // Puts packets before the others for their addressee, in order.
+    fn put_back_each(&mut self, peer: u8, mut packets: Vec<Packet<B>>)
+        requires peer { IsPeer self.old.me self.old.members peer }
+        requires addressed { All (λ p. p.addressee ≡ peer) packets.items }
+        requires room { length packets.items + length (waiting peer self.old) ≤ most_waiting }
+        ensures me { self.new.me ≡ self.old.me }
+        ensures members { self.new.members ≡ self.old.members }
+        ensures first { WaitFirst peer packets.items self.old self.new }
+    {
+        let _ = peer; // for the proof
+        while let Some(packet) = packets.pop() {
+            self.put_back(packet);
+        }
+    }
+
     /// Puts the packet before the others for its addressee, as one that was taken and could not go. There must be room for it. Does not
     /// allocate.
     pub fn put_back(&mut self, packet: Packet<B>)
@@ -210,6 +285,52 @@ impl<B: Drop> Outboxes<B> {
         self.next = stamp.saturating_add(1);
         put_in(&mut self.boxes, Stamped { stamp, packet });
     }
+}
+
+// Returns whether the packet is a Forward.
+fn is_forward<B>(packet: &Packet<B>) -> bool
+    ensures { result ≡ is_forward packet.now }
+{
+    matches!(packet.kind, Kind::Forward { .. })
+}
+
+// Puts the packet after others with which it goes; if it is a Forward, those among them give way. There must be room.
+fn put_due<B: Drop>(list: &mut Vec<Packet<B>>, packet: Packet<B>)
+    requires room { vec_len list.old < vec_capacity list.old }
+    ensures { list.new.items ≡ giving_way packet list.old.items ++ packet ∷ [] }
+{
+    give_way(list, &packet);
+    list.push_reserved(packet);
+}
+
+// Drops the Forwards in the list if the packet after them is one.
+fn give_way<B: Drop>(list: &mut Vec<Packet<B>>, packet: &Packet<B>)
+    ensures items { list.new.items ≡ giving_way packet.now list.old.items }
+    ensures length { vec_len list.new ≤ vec_len list.old }
+    ensures capacity { vec_capacity list.new ≡ vec_capacity list.old }
+{
+    if is_forward(packet) {
+        drop_forwards(list);
+    }
+}
+
+// Drops the Forwards in the list.
+fn drop_forwards<B: Drop>(list: &mut Vec<Packet<B>>)
+    ensures items { list.new.items ≡ filter (λ p. not (is_forward p)) list.old.items }
+    ensures length { vec_len list.new ≤ vec_len list.old }
+    ensures capacity { vec_capacity list.new ≡ vec_capacity list.old }
+{
+    list.retain(|packet| !is_forward(packet));
+}
+
+// Removes the first packet of the list, if there is one, and returns it.
+fn remove_first<B>(list: &mut Vec<Packet<B>>) -> Option<Packet<B>>
+    ensures { MatchOption result ((list.old.items ≡ []) × (list.new.items ≡ [])) (λ p. list.old.items ≡ p ∷ list.new.items) }
+{
+    if list.is_empty() {
+        return None;
+    }
+    Some(list.remove(0))
 }
 
 // Puts the packet into the outbox of its addressee, if there is one.

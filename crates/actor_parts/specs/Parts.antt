@@ -1,11 +1,14 @@
 -- What an actor is made of, as callers see it (docs/CONSENSUS.md, "A node with its store").
-use Rattle.std.specs.Prelude.{◌≡◌, ℕ, ◌-◌, Bool, true, false, Option, Some, None, List, [], ◌++◌, length, slice_get}
+use Rattle.std.specs.Prelude.{◌≡◌, ℕ, ◌-◌, nat_le, Bool, true, false, Option, Some, None, List, [], ◌++◌, length, slice_get}
 use Rattle.paxos_packets.specs.Members.{IsMember}
 use Rattle.paxos_packets.specs.declared.rows.Rows.{Rows}
 use Rattle.paxos_packets.specs.Snapshot.{floor_in}
 use Rattle.replica_machine.specs.Log.{LogState}
 use Rattle.paxos_node.specs.declared.event.Event.{Event}
 use Rattle.paxos_node.specs.declared.outcome.Outcome.{Outcome}
+use Rattle.paxos_packets.specs.declared.packet.Kind.{Kind}
+use Rattle.paxos_packets.specs.declared.packet.Kind.TheVariants.{Accepted}
+use Rattle.paxos_packets.specs.declared.packet.Packet.{Packet}
 use Rattle.paxos_packets.specs.declared.vote.Vote.{Vote}
 use Rattle.paxos_planning.specs.Node.{NodeState, log_length}
 use Rattle.paxos_node.specs.Held.{Held}
@@ -47,6 +50,15 @@ last_slot votes = slot_of (slice_get votes (length votes - 1))
 -- how many slots there are after a node's log up to the last one that it voted in
 abbrev pub open_slots : {B : Type 0} → NodeState B → ℕ
 open_slots x = last_slot x.rows.votes - log_length x
+
+-- an Accepted of a slot that the node has applied: its vote tells the node nothing
+
+abbrev pub is_late_in : {B : Type 0} → Kind B → ℕ → Bool
+is_late_in (Accepted vote) log = nat_le vote.slot log
+is_late_in _ log = false
+
+abbrev pub is_late : {B : Type 0} → Packet B → NodeState B → Bool
+is_late p x = is_late_in p.kind (log_length x)
 
 -- the list begins with these
 abbrev pub IsPrefixOf : {A : Type 0} → List A → List A → Type 0

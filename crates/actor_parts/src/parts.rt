@@ -1,6 +1,6 @@
 //! The parts of an actor, and what is done to each.
 ghost use Rattle.std.specs.Prelude.{◌≡◌, ◌<◌, ◌++◌, [], length, nat_lt, true, false, Some, Ok, Err, OnOk, OnErr, IfOk, IfErr, IfNone, IfSome, is_err};
-ghost use Rattle.std.specs.Prelude.{◌^◌, List, IsErrOf, is_some, if◌then◌else◌};
+ghost use Rattle.std.specs.Prelude.{◌^◌, ◌+◌, ◌≤◌, ◌∷◌, All, List, IsErrOf, is_some, if◌then◌else◌};
 ghost use Rattle.paxos_acceptor.specs.Acceptor as accepting;
 ghost use Rattle.paxos_node.specs.declared.fault.NodeFault.TheVariants as node_fault;
 ghost use Rattle.paxos_node.specs.Adopting.{Planned, Fits};
@@ -8,8 +8,8 @@ ghost use Rattle.paxos_node.specs.Events.{outcome_of, is_round_refused, is_full_
 ghost use Rattle.paxos_node.specs.Held.{HasRoom};
 ghost use Rattle.paxos_node.specs.Plans.{plans, unchanged, Answers};
 ghost use Rattle.paxos_proposer.specs.Proposer.{is_leading};
-ghost use Rattle.actor_outboxes.specs.Outboxes.{HasLimits, IsPeer, TakenFor, WaitsFirst, most_waiting, waiting};
-ghost use Rattle.actor_parts.specs.Parts.{Parted, IsPrefixOf, first_parts, open_slots};
+ghost use Rattle.actor_outboxes.specs.Outboxes.{HasLimits, IsPeer, ManyTaken, TakenFor, WaitFirst, WaitsFirst, most_waiting, waiting};
+ghost use Rattle.actor_parts.specs.Parts.{Parted, IsPrefixOf, first_parts, is_late, open_slots};
 ghost use Rattle.actor_parts.specs.Steps.{IsAtEnd, Applied, Falls, OnlyNode, OnlyKeeper, OnlyLog, OnlyWaiting, Adopts};
 ghost use Rattle.actor_parts.specs.Snapshots.{base_log, is_no_log, unboxed, IsMadeOf};
 ghost use Rattle.paxos_node.specs.Snapshots.{may_cut};
@@ -26,7 +26,7 @@ use crate::loading::load_log;
 use crate::storing::commit;
 use actor_outboxes::Outboxes;
 use paxos_node::{Event, Node, NodeFault, Outcome};
-use paxos_packets::{Ballot, Entries, Entry, Members, Memory, Packet, Rows};
+use paxos_packets::{Ballot, Entries, Entry, Kind, Members, Memory, Packet, Rows};
 use replica_machine::{AppliedLog, Failed, LoadFault, Machine, SaveFault};
 use std::alloc::Global;
 use std::marker::Model;
@@ -161,6 +161,13 @@ impl<M: Machine, K: Keeper<M::Body>> Parts<M, K> {
         self.node.has_pending()
     }
 
+    /// Returns how many entries of its node wait for a slot. Takes constant time.
+    pub fn pending_entries(&self) -> usize
+        ensures { result ≡ length self.now.node.state.pending }
+    {
+        self.node.pending().len()
+    }
+
     /// Returns whether its node leads.
     pub fn is_leading(&self) -> bool
         ensures { result ≡ is_leading self.now.node.state.proposer.role }
@@ -210,6 +217,11 @@ impl<M: Machine, K: Keeper<M::Body>> Parts<M, K> {
         ensures { log_length self.now.node.state < 2 ^ 40 }
     {
         let _ = self.node.applied(); // for the proof
+    }
+
+    /// Returns the allocator.
+    pub fn allocator(&self) -> Global {
+        self.alloc
     }
 
     /// Returns no sayings.
@@ -323,6 +335,7 @@ impl<M: Machine, K: Keeper<M::Body>> Parts<M, K> {
         ensures falls { K.holds self.old.keeper self.old.node.state.rows → IfErr result (λ fault.
             Falls K.finds K.failures outcome.now.change self.old.node.state.rows self.old.keeper self.new.keeper fault) }
         ensures whole { K.is_failed self.old.keeper ≡ false → K.is_failed self.new.keeper ≡ is_err result }
+        ensures counts { K.failures self.old.keeper ≤ K.failures self.new.keeper }
         ensures rest { OnlyKeeper self.old self.new }
     {
         commit(
@@ -375,6 +388,48 @@ impl<M: Machine, K: Keeper<M::Body>> Parts<M, K> {
         ensures rest { OnlyWaiting self.old self.new }
     {
         self.outboxes.take_for(peer)
+    }
+
+    /// Takes the oldest packets that wait for this node, if any do, to go together, as `Outboxes::take_many` does.
+    pub fn take_many(
+        &mut self,
+        peer: u8,
+        most: usize,
+    ) -> Option<(Packet<M::Body>, Vec<Packet<M::Body>>)>
+        requires some { 1 ≤ most }
+        ensures none { IfNone result ((self.new ≡ self.old) × (waiting peer self.old.waiting ≡ [])) }
+        ensures some { IfSome result (λ t. ManyTaken peer most (t.0 ∷ t.1.items) self.old.waiting self.new.waiting) }
+        ensures rest { OnlyWaiting self.old self.new }
+    {
+        self.outboxes.take_many(self.alloc, peer, most)
+    }
+
+    /// Puts packets before those that wait for their addressee, in order.
+    pub fn put_back_all(&mut self, peer: u8, first: Packet<M::Body>, rest: Vec<Packet<M::Body>>)
+        requires peer { IsPeer self.old.waiting.me self.old.waiting.members peer }
+        requires addressed { All (λ p. p.addressee ≡ peer) (first ∷ rest.items) }
+        requires room { 1 + length rest.items + length (waiting peer self.old.waiting) ≤ most_waiting }
+        ensures first { WaitFirst peer (first ∷ rest.items) self.old.waiting self.new.waiting }
+        ensures rest { OnlyWaiting self.old self.new }
+    {
+        self.outboxes.put_back_all(peer, first, rest);
+    }
+
+    /// Returns whether the packet comes too late to tell its node anything: it is an Accepted of a slot that the node has applied.
+    pub fn is_late(&self, packet: &Packet<M::Body>) -> bool
+        ensures { result ≡ is_late packet.now self.now.node.state }
+    {
+        match &packet.kind {
+            Kind::Accepted { vote } => vote.slot.get() <= self.node.applied(),
+            Kind::Prepare { .. }
+            | Kind::Promise { .. }
+            | Kind::Accept { .. }
+            | Kind::Nack { .. }
+            | Kind::Forward { .. }
+            | Kind::Learned { .. }
+            | Kind::Ask { .. }
+            | Kind::Snapshot { .. } => false,
+        }
     }
 
     /// Puts a packet before those that wait for its addressee.

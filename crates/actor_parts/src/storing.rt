@@ -1,5 +1,5 @@
 // Commits what an event changes.
-ghost use Rattle.std.specs.Prelude.{◌≡◌, true, false, OnOk, IfErr, is_err};
+ghost use Rattle.std.specs.Prelude.{◌≡◌, ◌≤◌, true, false, OnOk, IfErr, is_err};
 ghost use Rattle.paxos_acceptor.specs.Acceptor.{adopted};
 ghost use Rattle.actor_parts.specs.Steps.{Falls};
 
@@ -19,6 +19,7 @@ pub(crate) fn commit<B: Body, K: Keeper<B>>(
     ensures falls { K.holds keeper.old node.now.state.rows
         → IfErr result (λ fault. Falls K.finds K.failures change.now node.now.state.rows keeper.old keeper.new fault) }
     ensures whole { K.is_failed keeper.old ≡ false → K.is_failed keeper.new ≡ is_err result }
+    ensures counts { K.failures keeper.old ≤ K.failures keeper.new }
 {
     if node.has_all(change) {
         return Ok(());

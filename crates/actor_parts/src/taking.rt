@@ -23,6 +23,7 @@ impl<M: Machine, K: Keeper<M::Body>> Parts<M, K> {
         requires alive { self.old.log.failed ≡ false }
         requires end { IsAtEnd self.old.log }
         ensures who { StaysWho self.old self.new }
+        ensures keeper { self.new.keeper ≡ self.old.keeper }
         ensures follows { TakesIn M.steps M.content outcome self.old self.new result }
     {
         let boot = self.boot();
@@ -36,7 +37,8 @@ impl<M: Machine, K: Keeper<M::Body>> Parts<M, K> {
 
     // Returns what is said, or that the node is lost.
     fn answer(&mut self, says: Vec<M::Say>) -> Result<Vec<M::Say>, ActorFault<M::Say>>
-        ensures { AnswersUp says.items self.old self.new result }
+        ensures answers { AnswersUp says.items self.old self.new result }
+        ensures keeper { self.new.keeper ≡ self.old.keeper }
     {
         if self.is_up() {
             return Ok(says);

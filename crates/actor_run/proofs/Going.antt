@@ -1,7 +1,7 @@
 -- How a run goes on by an event, or by none.
-use Rattle.std.proofs.Common.{◌≡◌, ℕ, Bool, true, false, List, [], ◌∷◌, ◌++◌, ap, sym, subst, ◌∙◌, refl, Option, Some, None}
+use Rattle.std.proofs.Common.{◌≡◌, ℕ, Bool, List, [], ◌++◌, ap, sym, subst, ◌∙◌, Option}
 use Rattle.std.specs.Option.{option_to_list}
-use Rattle.std.proofs.lemmas.List.{append-nil, append_assoc}
+use Rattle.std.proofs.lemmas.List.{append_assoc}
 use Rattle.std.proofs.lemmas.Grind.{flat_map-append}
 use Rattle.paxos_packets.specs.declared.entry.Entry.{Entry}
 use Rattle.paxos_packets.specs.declared.rows.Rows.{Rows}
@@ -16,10 +16,10 @@ use Rattle.replica_machine.specs.Log.{IsLogOf, machine_from}
 use Rattle.replica_machine.specs.Replay.{Steps}
 use Rattle.node_actor.specs.Snapshots.{Logs, TakesLog, under_after, handed_by}
 use Rattle.node_actor.specs.Actor.{Acting}
-use Rattle.node_actor.specs.Calls.{Goes, turn_event}
-use Rattle.node_actor.specs.Turns.{Turns, packet_got}
-use Rattle.node_actor.specs.Views.{View, seen, moved_by, StandsFor}
-use Rattle.actor_run.specs.Events.{asked_by, asked_in, act_in, acts_in, behind, gained_in, said_in, under_in}
+use Rattle.node_actor.specs.Calls.{Goes}
+use Rattle.node_actor.specs.Turns.{Turns}
+use Rattle.node_actor.specs.Views.{View, seen, moved_by}
+use Rattle.actor_run.specs.Events.{act_in, acts_in, behind, gained_in, said_in, under_in}
 use Rattle.actor_run.specs.Runs.{Outset, HeldBack, Went}
 use Rattle.actor_run.proofs.Lists.{gained_at, behind_more, gained_more, said_more, take_more, under_more}
 

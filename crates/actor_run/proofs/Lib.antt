@@ -1,3 +1,8 @@
 mod Lists
+mod ManyEvents
+mod RoundActs
 mod Going
 mod Making
+mod Gathering
+mod RoundGoing
+mod RoundTaking

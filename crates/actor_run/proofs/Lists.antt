@@ -1,6 +1,6 @@
 -- Lists of events with one more at the end, or none.
 use Rattle.std.proofs.Common.{◌≡◌, ℕ, Bool, true, false, List, [], ◌∷◌, ◌++◌, ap, sym, ◌∙◌, refl, Option, Some, None}
-use Rattle.std.specs.Prelude.{◌==◌, ◌&&◌, not, if◌then◌else◌}
+use Rattle.std.specs.Prelude.{not, if◌then◌else◌}
 use Rattle.std.specs.Option.{option_to_list, is_some}
 use Rattle.std.proofs.lemmas.List.{append-nil, append_assoc}
 use Rattle.paxos_packets.specs.declared.entry.Entry.{Entry}
@@ -10,25 +10,19 @@ use Rattle.paxos_node.specs.declared.event.Event.TheVariants.{Take, Deliver, Cut
 use Rattle.paxos_node.specs.Events.{takes, is_round_refused, is_full_refused}
 use Rattle.paxos_node.specs.View.{Viewed}
 use Rattle.paxos_planning.specs.Node.{NodeState}
-use Rattle.replica_machine.specs.Replay.{Machine}
 use Rattle.paxos_node.specs.Snapshots.{may_cut}
 use Rattle.paxos_packets.specs.Snapshot as taken
 use Rattle.node_actor.specs.Calls.{is_own, turn_event, has_no_round, has_no_room}
-use Rattle.node_actor.specs.Snapshots.{Logs, TakesLog, under_after, handed_by, cut_to}
+use Rattle.node_actor.specs.Snapshots.{cut_to}
 use Rattle.node_actor.specs.Views.{moved_by, is_for}
-use Rattle.actor_run.specs.Events.{asked_by, asked_in, acts_in, gained_by, behind, gained_in, said_in, under_in, TakeLogs, is_own_cut}
+pub use Rattle.node_actor.proofs.EventLists.{behind_more, said_more, take_more, under_more}
+use Rattle.actor_run.specs.Events.{asked_by, acts_in, gained_by, behind, gained_in, is_own_cut}
 
 abbrev pub gained_at : {B : Type 0} → Option (Event B) → NodeState B → List (Entry B)
 gained_at None x = []
 gained_at (Some e) x = gained_by e x
 
 module _ {B : Type 0} (same : B → B → Bool) (members : ℕ) where
-  pub behind_more : (made : List (Event B)) (e : Option (Event B)) (s : Viewed B)
-      → behind same members (made ++ option_to_list e) s ≡ moved_by same members e (behind same members made s)
-  behind_more [] None s = refl
-  behind_more [] (Some e) s = refl
-  behind_more (x ∷ xs) e s = behind_more xs e (moved_by same members (Some x) s)
-
   pub gained_more : (made : List (Event B)) (e : Option (Event B)) (s : Viewed B)
       → gained_in same members (made ++ option_to_list e) s ≡ gained_in same members made s ++ gained_at e (behind same members made s).node
   gained_more [] None s = refl
@@ -37,36 +31,6 @@ module _ {B : Type 0} (same : B → B → Bool) (members : ℕ) where
       let t : Viewed B = moved_by same members (Some x) s in
       ap (λ g. gained_by x s.node ++ g) (gained_more xs e t)
       ∙ sym (append_assoc (gained_by x s.node) (gained_in same members xs t) (gained_at e (behind same members xs t).node))
-
-  module _ {S Y : Type 0} (m : Machine B S Y) where
-    pub said_more : (logs : Logs B) (under : List (Entry B)) (made : List (Event B)) (e : Option (Event B)) (s : Viewed B)
-        → said_in same members m logs under (made ++ option_to_list e) s
-        ≡ said_in same members m logs under made s
-        ++ handed_by same members m logs (under_in same members logs under made s) e (behind same members made s).node
-    said_more logs under [] None s = refl
-    said_more logs under [] (Some e) s = append-nil (handed_by same members m logs under (Some e) s.node)
-    said_more logs under (x ∷ xs) e s =
-        let t : Viewed B = moved_by same members (Some x) s in
-        let up : List (Entry B) = under_after same members logs under (Some x) s.node in
-        ap (λ g. handed_by same members m logs under (Some x) s.node ++ g) (said_more logs up xs e t)
-        ∙ sym (append_assoc (handed_by same members m logs under (Some x) s.node) (said_in same members m logs up xs t)
-        (handed_by same members m logs (under_in same members logs up xs t) e (behind same members xs t).node))
-
-    pub take_more : (loaded : List ℕ → Option S) (logs : Logs B) (made : List (Event B)) (e : Option (Event B)) (s : Viewed B)
-        → TakeLogs same members loaded m logs (made ++ option_to_list e) s
-        → TakeLogs same members loaded m logs made s × TakesLog same members loaded m logs e (behind same members made s).node
-    take_more loaded logs [] None s h = (tt, tt)
-    take_more loaded logs [] (Some e) s h = (tt, h.0)
-    take_more loaded logs (x ∷ xs) e s h =
-        let r = take_more loaded logs xs e (moved_by same members (Some x) s) h.1 in ((h.0, r.0), r.1)
-
-  pub under_more : (logs : Logs B) (under : List (Entry B)) (made : List (Event B)) (e : Option (Event B)) (s : Viewed B)
-      → under_in same members logs under (made ++ option_to_list e) s
-      ≡ under_after same members logs (under_in same members logs under made s) e (behind same members made s).node
-  under_more logs under [] None s = refl
-  under_more logs under [] (Some e) s = refl
-  under_more logs under (x ∷ xs) e s =
-      under_more logs (under_after same members logs under (Some x) s.node) xs e (moved_by same members (Some x) s)
 
   -- what one event asks and gains
 

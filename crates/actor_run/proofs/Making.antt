@@ -23,14 +23,29 @@ use Rattle.node_actor.specs.Turns.{Turns, packet_got}
 use Rattle.node_actor.specs.Views.{View, seen, StandsFor}
 use Rattle.actor_run.specs.Answers.{is_refusal, says_of, IsQuiet, Gets, Answered}
 use Rattle.actor_run.specs.Events.{asked_by, asked_in, acts_in, behind, gained_in, is_own_cut}
-use Rattle.actor_run.specs.Runs.{Outset, HeldBack, Went, Underway, Waits, IsLate, Ended, Makes, late_of, IsHeld, none_is, was_held, ended_it}
+use Rattle.actor_run.specs.Runs.{Outset, Underway, Waits, IsLate, Ended, Makes, late_of, IsHeld, none_is, was_held, ended_it}
 use Rattle.actor_run.proofs.Lists.{gained_at, gains, cut_asks, cut_gains, not_asked, none_asked, turn_gains, turn_rounds, turn_rooms}
 use Rattle.actor_run.proofs.Going.{goes_on, posts_on, held_on}
+
+module _ {B S Y M K : Type 0} (same : B → B → Bool) (steps : Steps B S Y) (content : M → S) (loaded : List ℕ → Option S)
+    (holds : K → Rows B → Type 0) (finds : K → Rows B → Type 0) (failures : K → ℕ) where
+  -- an event that is not refused is ended by no refusal
+  pub fatal_by : (fault : ActorFault Y) (last : Option (Event B)) (mid now : Acting B M K) (v : View B)
+      → Acts same steps content loaded holds finds failures last mid now v (Err fault) → has_no_round last (seen v).node ≡ false
+      → has_no_room same last (seen v).node ≡ false → is_refusal fault ≡ false
+  fatal_by Failed last mid now v a rounds rooms = refl
+  fatal_by Rounds last mid now v a rounds rooms = absurd (let off : ◌≡◌ {A = Bool} true false = sym a.1 ∙ rounds in cc)
+  fatal_by Full last mid now v a rounds rooms = absurd (let off : ◌≡◌ {A = Bool} true false = sym a.1 ∙ rooms in cc)
+  fatal_by (Keeper cause) last mid now v a rounds rooms = refl
+  fatal_by Disagree last mid now v a rounds rooms = refl
+  fatal_by (LostHere says) last mid now v a rounds rooms = refl
+  fatal_by Worn last mid now v a rounds rooms = refl
+  fatal_by Memory last mid now v a rounds rooms = refl
 
 module _ {B S Y M K F : Type 0} (same : B → B → Bool) (steps : Steps B S Y) (content : M → S) (loaded : List ℕ → Option S) (saw : F → List (Event B) → List Y → Type 0)
     (o : Outset B Y M K) where
   -- another list of late acts that is the same
-  abbrev late_is : (late rest : List (ℕ × B)) (now : Acting B M K) (feed : F) → late ≡ rest → Underway same steps content loaded saw late o now feed
+  abbrev pub late_is : (late rest : List (ℕ × B)) (now : Acting B M K) (feed : F) → late ≡ rest → Underway same steps content loaded saw late o now feed
       → Underway same steps content loaded saw rest o now feed
   late_is late rest now feed e u =
       record {
@@ -50,16 +65,15 @@ module _ {B S Y M K F : Type 0} (same : B → B → Bool) (steps : Steps B S Y) 
         told = u.told;
       }
 
-  -- the feed gave an event, or none
-  pub given_on : (now : Acting B M K) (feed next : F) (r : Option (Event B))
+  -- the feed gave an event, or none: its act is late, too
+  pub given_on : (late : List (ℕ × B)) (now : Acting B M K) (feed next : F) (r : Option (Event B))
       → ((given : List (Event B)) (got : List Y) → saw feed given got → saw next (given ++ option_to_list r) got)
-      → Underway same steps content loaded saw [] o now feed → Underway same steps content loaded saw (late_of o.actor.node.me r) o now next
-  given_on now feed next r gives u =
+      → Underway same steps content loaded saw late o now feed → Underway same steps content loaded saw (late ++ late_of o.actor.node.me r) o now next
+  given_on late now feed next r gives u =
       let me : ℕ = o.actor.node.me in
       let asked : asked_in me (u.given ++ option_to_list r) ≡ asked_in me u.given ++ late_of me r =
       flat_map-append (asked_by me) u.given (option_to_list r) ∙ ap (λ l. asked_in me u.given ++ l) (late_is_asked me r) in
       let made : List (ℕ × B) = acts_in (gained_in same o.actor.node.members u.made (seen o.view)) in
-      let all : made ≡ asked_in me u.given = sym (append-nil made) ∙ u.went.acts in
       record {
         view = u.view;
         made = u.made;
@@ -70,7 +84,7 @@ module _ {B S Y M K F : Type 0} (same : B → B → Bool) (steps : Steps B S Y) 
           me = u.went.me;
           members = u.went.members;
           moved = u.went.moved;
-          acts = ap (λ l. l ++ late_of me r) all ∙ sym asked;
+          acts = sym (append_assoc made late (late_of me r)) ∙ (ap (λ l. l ++ late_of me r) u.went.acts ∙ sym asked);
           says = u.went.says;
           follows = u.went.follows;
         };
@@ -87,10 +101,10 @@ module _ {B S Y M K F : Type 0} (same : B → B → Bool) (steps : Steps B S Y) 
       → ((given : List (Event B)) (got : List Y) → saw feed given got → saw next (given ++ option_to_list r) got)
       → Waits same steps content loaded saw None o now feed
       → MatchOption r (Waits same steps content loaded saw None o now next) (λ e. Underway same steps content loaded saw (asked_by now.node.me e) o now next)
-  next_of now feed next None gives w = record { under = given_on now feed next None gives w.under; back = tt }
+  next_of now feed next None gives w = record { under = given_on [] now feed next None gives w.under; back = tt }
   next_of now feed next (Some e) gives w =
       late_is (asked_by o.actor.node.me e) (asked_by now.node.me e) now next (ap (λ k. asked_by k e) (sym w.under.went.me))
-      (given_on now feed next (Some e) gives w.under)
+      (given_on [] now feed next (Some e) gives w.under)
 
   -- the one that was held back
   pub held_again : (now : Acting B M K) (feed : F) (e : Event B) → Waits same steps content loaded saw (Some e) o now feed
@@ -221,41 +235,32 @@ module _ {B S Y M K F : Type 0} (same : B → B → Bool) (steps : Steps B S Y) 
               back = held_still held u.made last none w.back;
             }
 
-    -- no packet's event is refused
-    fatal_by : (fault : ActorFault Y) (last : Option (Event B)) (mid now : Acting B M K) (v : View B)
-        → Acts same steps content loaded holds finds failures last mid now v (Err fault) → has_no_round last (seen v).node ≡ false
-        → has_no_room same last (seen v).node ≡ false → is_refusal fault ≡ false
-    fatal_by Failed last mid now v a rounds rooms = refl
-    fatal_by Rounds last mid now v a rounds rooms = absurd (let off : ◌≡◌ {A = Bool} true false = sym a.1 ∙ rounds in cc)
-    fatal_by Full last mid now v a rounds rooms = absurd (let off : ◌≡◌ {A = Bool} true false = sym a.1 ∙ rooms in cc)
-    fatal_by (Keeper cause) last mid now v a rounds rooms = refl
-    fatal_by Disagree last mid now v a rounds rooms = refl
-    fatal_by (LostHere says) last mid now v a rounds rooms = refl
-    fatal_by Worn last mid now v a rounds rooms = refl
-    fatal_by Memory last mid now v a rounds rooms = refl
-
     -- a cut that returned what was said
+    pub cut_goes : (late : List (ℕ × B)) (snapshot : Option taken.Snapshot) (old now : Acting B M K) (feed next : F) (says : Vec Y Global)
+        → ((v : View B) → StandsFor old v → Cuts same steps content loaded holds finds failures snapshot old now v (Ok says))
+        → now.node.me ≡ old.node.me → now.node.members ≡ old.node.members → Gets {B = B} saw says.items feed next
+        → Underway same steps content loaded saw late o old feed → Underway same steps content loaded saw late o now next
+    cut_goes late snapshot old now feed next says cuts me members gets u =
+        let a = cuts u.view u.went.stands in
+        let e : Option (Event B) = cut_to old.node.me snapshot (seen u.view).node in
+        let gain : acts_in (gained_at e (seen u.view).node) ++ late ≡ late =
+        ap (λ l. acts_in l ++ late) (cut_gains same o.actor.node.members old.node.me snapshot (seen u.view).node (seen u.view).node) in
+        record {
+          view = a.4.next;
+          made = u.made ++ option_to_list e;
+          given = u.given;
+          said = u.said ++ says.items;
+          went = goes_on same steps content loaded holds finds failures o late late old now u.view u.made u.given u.said says.items e u.went a.4
+              me members gain;
+          told = subst (saw next (o.gave ++ u.given)) (append_assoc o.got u.said says.items) (gets (o.gave ++ u.given) (o.got ++ u.said) u.told);
+        }
+
     pub cut_ok : (snapshot : Option taken.Snapshot) (old now : Acting B M K) (feed next : F) (says : Vec Y Global)
         → ((v : View B) → StandsFor old v → Cuts same steps content loaded holds finds failures snapshot old now v (Ok says))
         → now.node.me ≡ old.node.me → now.node.members ≡ old.node.members → Gets {B = B} saw says.items feed next
         → Underway same steps content loaded saw [] o old feed → Waits same steps content loaded saw None o now next
     cut_ok snapshot old now feed next says cuts me members gets u =
-        let a = cuts u.view u.went.stands in
-        let e : Option (Event B) = cut_to old.node.me snapshot (seen u.view).node in
-        let gain : acts_in (gained_at e (seen u.view).node) ++ [] ≡ [] =
-        ap (λ l. acts_in l ++ []) (cut_gains same o.actor.node.members old.node.me snapshot (seen u.view).node (seen u.view).node) in
-        record {
-          under = record {
-            view = a.4.next;
-            made = u.made ++ option_to_list e;
-            given = u.given;
-            said = u.said ++ says.items;
-            went = goes_on same steps content loaded holds finds failures o [] [] old now u.view u.made u.given u.said says.items e u.went a.4
-                me members gain;
-            told = subst (saw next (o.gave ++ u.given)) (append_assoc o.got u.said says.items) (gets (o.gave ++ u.given) (o.got ++ u.said) u.told);
-          };
-          back = tt;
-        }
+        record { under = cut_goes [] snapshot old now feed next says cuts me members gets u; back = tt }
 
     -- a cut that returned a fault
     pub cut_err : (snapshot : Option taken.Snapshot) (old now : Acting B M K) (feed next : F) (fault answer : ActorFault Y)
@@ -276,7 +281,7 @@ module _ {B S Y M K F : Type 0} (same : B → B → Bool) (steps : Steps B S Y) 
           went = u.went;
           why = none_is refl;
           ended = cuts u.view u.went.stands;
-          fatal = fatal_by fault last old now u.view (cuts u.view u.went.stands) refl refl;
+          fatal = fatal_by same steps content loaded holds finds failures fault last old now u.view (cuts u.view u.went.stands) refl refl;
           quiet = quiet;
           told = gets (o.gave ++ u.given) (o.got ++ u.said) u.told;
         }
@@ -328,7 +333,7 @@ module _ {B S Y M K F : Type 0} (same : B → B → Bool) (steps : Steps B S Y) 
                   t u.went;
               why = why_late held u.made last w.back;
               ended = t.acts;
-              fatal = fatal_by fault last t.mid now t.between t.acts
+              fatal = fatal_by same steps content loaded holds finds failures fault last t.mid now t.between t.acts
                   (turn_rounds same old.node.members old.node.me (packet_got t.got) (seen t.between).node)
                   (turn_rooms same old.node.members old.node.me (packet_got t.got) (seen t.between).node);
               quiet = quiet;

@@ -25,7 +25,7 @@ fn count_for<M: Machine, K: Keeper<M::Body>>(actor: &Actor<M, K>, peer: u8) -> u
 }
 
 // Returns how many packets wait for each member, member 1 first.
-fn waiting_of<M: Machine, K: Keeper<M::Body>>(actor: &Actor<M, K>) -> [u16; 7]
+pub(crate) fn waiting_of<M: Machine, K: Keeper<M::Body>>(actor: &Actor<M, K>) -> [u16; 7]
     ensures { result ≡ counts actor.now.waiting }
 {
     [
@@ -49,6 +49,7 @@ fn seen_by<M: Machine, K: Keeper<M::Body>>(actor: &Actor<M, K>) -> Seen
         applied: actor.applied(),
         floor: actor.floor(),
         pending: actor.has_pending(),
+        pending_entries: actor.pending_entries(),
         posted: actor.posted(),
         waiting: waiting_of(actor),
         commits: actor.commits(),
@@ -59,7 +60,7 @@ fn seen_by<M: Machine, K: Keeper<M::Body>>(actor: &Actor<M, K>) -> Seen
 }
 
 // Returns whether the event is one of this node that a feed may give. An act of the transport 0 is not.
-fn is_own<B>(node: u8, event: &Event<B>) -> bool
+pub(crate) fn is_own<B>(node: u8, event: &Event<B>) -> bool
     ensures { result ≡ is_own node event.now }
 {
     match event {
@@ -79,7 +80,7 @@ fn is_own<B>(node: u8, event: &Event<B>) -> bool
 }
 
 // Returns whether the event is a cut of this node.
-fn is_own_cut<B>(node: u8, event: &Event<B>) -> bool
+pub(crate) fn is_own_cut<B>(node: u8, event: &Event<B>) -> bool
     ensures { result ≡ is_own_cut node event.now }
 {
     match event {

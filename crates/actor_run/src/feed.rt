@@ -20,6 +20,8 @@ pub struct Seen {
     pub floor: u64,
     /// Whether entries are pending.
     pub pending: bool,
+    /// How many are.
+    pub pending_entries: usize,
     /// The peers to which the last turn posted.
     pub posted: NodeSet,
     /// How many packets wait for each member, member 1 first.

@@ -18,6 +18,7 @@ fn take_turn<M: Machine, K: Keeper<M::Body>, F: Feed<M::Body, M::Say>>(
     feed: &mut F,
 ) -> Result<(), ActorFault<M::Say>>
     requires owned { Owns mail.now actor.old.seat }
+    requires single { mail.now.most ≡ 1 }
     ensures still_owned { Owns mail.now actor.new.seat }
     ensures turned { (held : Option (Event M.Body)) (o : Outset M.Body M.Say M K) →
         Waits M.Body.same M.steps M.content M.loaded F.saw held o actor.old feed.old →
@@ -40,6 +41,7 @@ fn round<M: Machine, K: Keeper<M::Body>, F: Feed<M::Body, M::Say>>(
     held: &mut Option<Event<M::Body>>,
 ) -> Result<(), ActorFault<M::Say>>
     requires owned { Owns mail.now actor.old.seat }
+    requires single { mail.now.most ≡ 1 }
     ensures still_owned { Owns mail.now actor.new.seat }
     ensures makes { (o : Outset M.Body M.Say M K) →
         Waits M.Body.same M.steps M.content M.loaded F.saw held.old o actor.old feed.old →
@@ -64,6 +66,7 @@ pub fn run_node<M: Machine, K: Keeper<M::Body>, G: Gate, F: Feed<M::Body, M::Say
     feed: &mut F,
 ) -> Result<(), ActorFault<M::Say>>
     requires owned { Owns mail.now actor.old.seat }
+    requires single { mail.now.most ≡ 1 }
     ensures still_owned { Owns mail.now actor.new.seat }
     ensures runs { (view : View M.Body) (gave : List (Event M.Body)) (got : List M.Say) → StandsFor actor.old view → F.saw feed.old gave got →
         Runs M.Body.same M.steps M.content M.loaded F.saw K.holds K.finds K.failures

@@ -10,8 +10,9 @@ use Rattle.actor_parts.specs.declared.fault.ActorFault.{ActorFault}
 use Rattle.node_actor.specs.Actor.{Acting}
 use Rattle.node_actor.specs.Views.{View}
 use Rattle.actor_run.specs.Events.{asked_in}
+use Rattle.actor_run.specs.RoundRuns.{RunsRounds}
 use Rattle.actor_run.specs.Runs.{Runs}
-use Rattle.actor_tests.specs.Telling.{Told, TellsAll}
+use Rattle.actor_tests.specs.Telling.{Told, TellsAll, TellsRounds}
 
 -- an event more, none, and sayings more
 
@@ -52,3 +53,22 @@ told_all same steps content loaded saw holds finds failures old now view feed ga
       says = λ first logs follows takes. all.1 ∙ under.went.says first [] logs follows takes;
     }
 told_all same steps content loaded saw holds finds failures old now view feed gave got (Err fault) ok shows runs = absurd (false≢true ok)
+
+-- and a run by rounds
+pub told_rounds : {B S Y M K F : Type 0} (same : B → B → Bool) (steps : Steps B S Y) (content : M → S) (loaded : List ℕ → Option S)
+    (saw : F → List (Event B) → List Y → Type 0) (holds : K → Rows B → Type 0) (finds : K → Rows B → Type 0) (failures : K → ℕ)
+    (old now : Acting B M K) (view : View B) (feed : F) (gave : List (Event B)) (got : List Y) (result : Result (Unit {0}) (ActorFault Y)) → is_ok result ≡ true
+    → ((given : List (Event B)) (said : List Y) → saw feed given said → (gave ≡ given) × (got ≡ said))
+    → RunsRounds same steps content loaded saw holds finds failures (record { actor = old; view = view; gave = []; got = [] }) now feed result
+    → TellsRounds same steps content loaded old view gave got
+told_rounds same steps content loaded saw holds finds failures old now view feed gave got (Ok _) ok shows runs =
+    let under = runs.1.under in
+    let all = shows under.given under.said under.told in
+    record {
+      made = under.made;
+      held = runs.0;
+      back = runs.1.back;
+      acts = under.went.acts ∙ ap (asked_in old.node.me) (sym all.0);
+      says = λ first logs follows takes. all.1 ∙ under.went.says first [] logs follows takes;
+    }
+told_rounds same steps content loaded saw holds finds failures old now view feed gave got (Err fault) ok shows runs = absurd (false≢true ok)

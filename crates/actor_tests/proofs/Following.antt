@@ -1,5 +1,5 @@
 -- What a node plans follows from what its seat knows.
-use Rattle.std.proofs.Common.{◌≡◌, ℕ, Bool, true, false, Option, Some, None, eqb, refl, ap, sym, subst, ◌∙◌}
+use Rattle.std.proofs.Common.{◌≡◌, ℕ, Bool, true, false, Option, Some, None, [], ◌∷◌, eqb, refl, ap, sym, subst, ◌∙◌}
 use Rattle.std.proofs.lemmas.Bool.{and_from, eq-eqb}
 use Rattle.std.specs.Prelude.{◌==◌, MatchOption}
 use Rattle.cluster_world.proofs.Lists.{has_right}
@@ -53,7 +53,7 @@ pub fetched_one : (n from : ℕ) (p : Packet ℕ) (x : Part ℕ) → IsMember n 
 fetched_one n from p x member = (
   from,
   member,
-  subst (λ l. Has l p) (sym (through_more (box_of n from x.me) x.received p))
+  subst (λ l. Has l p) (sym (through_more (box_of n from x.me) x.received (p ∷ [])))
       (has_right (through (box_of n from x.me) x.received) here),
 )
 

@@ -1,2 +1,3 @@
+pub mod InBatch
 mod Following
 pub mod Feeding

@@ -4,9 +4,9 @@ ghost use Rattle.std.specs.Prelude.{◌≡◌, All, false};
 ghost use Rattle.mail_table.specs.Seats.{Owns};
 ghost use Rattle.actor_tests.specs.Fresh.{IsFresh};
 
-use crate::hearing::{Heard, hear};
-use mail_table::{Mail, NodeSeat, Office, found};
-use node_actor::{Actor, Body, Keeper, Machine, Members};
+use crate::hearing::{Answer, Heard, hear};
+use mail_table::{Mail, NodeSeat, Office, found, found_for_batches};
+use node_actor::{Actor, ActorFault, Body, Keeper, Machine, Members};
 use std::alloc::Global;
 use std::panic::Expect;
 use std::process::Abort;
@@ -121,7 +121,36 @@ pub fn opened<M: Machine, K: Keeper<M::Body>>(
     opened_at(rt, alloc, mail, seat, members, machine, keeper)
 }
 
-/// Takes a turn. Returns whether a packet moved.
+// What a turn returns, or at a table for batches a round without events of the node's own.
+fn turned<M: Machine, K: Keeper<M::Body>>(
+    alloc: Global,
+    mail: &Mail<M::Body>,
+    actor: &mut Actor<M, K>,
+) -> Answer<M::Say>
+    requires { Owns mail.now actor.old.seat }
+    ensures { Owns mail.now actor.new.seat }
+{
+    if mail.most() == 1 {
+        return actor.turn(mail);
+    }
+    let mut says = actor.silence();
+    match actor.round(mail, Vec::new(alloc), &mut says) {
+        Ok(held) => {
+            drop(held);
+            Ok(says)
+        },
+        Err(ActorFault::LostHere(none)) => {
+            drop(none);
+            Err(ActorFault::LostHere(says))
+        },
+        Err(fault) => {
+            drop(says);
+            Err(fault)
+        },
+    }
+}
+
+/// Takes a turn, or at a table for batches a round. Returns whether a packet moved.
 pub fn turn<M: Machine, K: Keeper<M::Body>>(
     rt: &impl Abort,
     mail: &Mail<M::Body>,
@@ -131,16 +160,16 @@ pub fn turn<M: Machine, K: Keeper<M::Body>>(
     requires { Owns mail.now actor.old.seat }
     ensures { Owns mail.now actor.new.seat }
 {
-    let done = actor.turn(mail);
+    let done = turned(heard.alloc, mail, actor);
     let moved = done.is_ok() && has_moved(actor);
     hear(rt, heard, actor.me(), done);
     moved
 }
 
-// Whether the actor's last turn posted a packet, or treated one.
+// Whether the actor's last turn or round posted a packet, or treated one.
 fn has_moved<M: Machine, K: Keeper<M::Body>>(actor: &Actor<M, K>) -> bool {
     let posted = actor.posted();
-    let mut moved = actor.from().is_some();
+    let mut moved = actor.from().is_some() || !actor.came().is_empty();
     for node in 1..=7 {
         moved = moved || posted.contains(node);
     }
@@ -302,6 +331,26 @@ fn live_at<M: Machine, K: Keeper<M::Body> + Drop, L: Life<M, K>>(
     put_seat(rt, mail, seats, seat_of(three));
 }
 
+// The actors of all seats of this table live so, and are gathered.
+fn live_all<M: Machine, K: Keeper<M::Body> + Drop, L: Life<M, K>>(
+    rt: &impl Abort,
+    alloc: Global,
+    mail: Mail<M::Body>,
+    seats: Vec<NodeSeat<M::Body>>,
+    members: Members,
+    life: &mut L,
+)
+    requires fresh { All (IsFresh mail) seats.items }
+    requires members { members ≡ mail.members }
+{
+    let mut seats = seats;
+    let mut heard = Heard::nothing(alloc);
+    live_at(rt, alloc, &mail, &mut seats, members, life, &mut heard);
+    let lengths = gathered(rt, mail, seats);
+    life.end(&heard, &lengths);
+    drop(heard);
+}
+
 /// Opens three nodes at a new table, lets them live so, and gathers them.
 pub fn live<M: Machine, K: Keeper<M::Body> + Drop, L: Life<M, K>>(
     rt: &impl Abort,
@@ -310,10 +359,20 @@ pub fn live<M: Machine, K: Keeper<M::Body> + Drop, L: Life<M, K>>(
 ) {
     let members = Members::new(3).expect(rt, "3 members");
     let mut office = Office::new();
-    let (mail, mut seats) = found::<M::Body>(alloc, &mut office, members).expect(rt, "a table");
-    let mut heard = Heard::nothing(alloc);
-    live_at(rt, alloc, &mail, &mut seats, members, life, &mut heard);
-    let lengths = gathered(rt, mail, seats);
-    life.end(&heard, &lengths);
-    drop(heard);
+    let (mail, seats) = found::<M::Body>(alloc, &mut office, members).expect(rt, "a table");
+    live_all(rt, alloc, mail, seats, members, life);
+}
+
+/// The same at a table for batches, where each turn is a round.
+pub fn live_by_rounds<M: Machine, K: Keeper<M::Body> + Drop, L: Life<M, K>>(
+    rt: &impl Abort,
+    alloc: Global,
+    life: &mut L,
+) {
+    let members = Members::new(3).expect(rt, "3 members");
+    let mut office = Office::new();
+    let (mail, seats) = found_for_batches::<M::Body>(alloc, &mut office, members).expect(
+        rt, "a table",
+    );
+    live_all(rt, alloc, mail, seats, members, life);
 }

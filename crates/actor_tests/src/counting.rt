@@ -2,7 +2,7 @@
 use crate::carrying::{all_turns, at, have_log, hear, number};
 use crate::check::Check;
 use crate::hearing::{Heard, Told};
-use crate::trial::{Trial, tried};
+use crate::trial::{Trial, tried, tried_by_rounds};
 use paxos_packets::Transport;
 use std::alloc::Global;
 use std::process::Abort;
@@ -182,6 +182,11 @@ pub fn serve_and_leave(rt: &impl Abort, alloc: Global, actors: &mut Vec<Counting
 #[test]
 fn one_session_goes_through_three_nodes(rt: HostRuntime) {
     tried(&rt, rt.alloc(), &NONE_FAILS, Trial::Serves);
+}
+
+#[test]
+fn one_session_goes_through_three_nodes_by_rounds(rt: HostRuntime) {
+    tried_by_rounds(&rt, rt.alloc(), &NONE_FAILS, Trial::Serves);
 }
 
 /// Whether a call of the node fails since its store failed, as is wanted.

@@ -39,8 +39,8 @@ pub fn restarted<'a>(alloc: Global, actor: Counting<'a>) -> Option<Counting<'a>>
     again(left.restart(alloc, Count::new(alloc), keeper.reopen()))
 }
 
-// Lets the second actor go on, between the others. Returns whether it does.
-fn restart_second(alloc: Global, actors: &mut Vec<Counting<'_>>) -> bool {
+/// Lets the second actor go on, between the others. Returns whether it does.
+pub fn restart_second(alloc: Global, actors: &mut Vec<Counting<'_>>) -> bool {
     let Some((first, second)) = pop_two(actors) else {
         return false;
     };
@@ -57,7 +57,8 @@ const NEXT: Ballot = Ballot { round: 2, node: 1 };
 // What the second actor has pending is applied.
 const GOING_ON: Script = &[ALL, (2, Asked::Tick), ALL];
 
-fn goes_on(rt: &impl Abort, actors: &mut [Counting<'_>], heard: &mut Heard<Sum>) {
+/// The second actor, which has begun again, goes on with the others, and the logs of all are those of their boots.
+pub fn goes_on(rt: &impl Abort, actors: &mut [Counting<'_>], heard: &mut Heard<Sum>) {
     goes(rt, actors, heard, STARTING);
     check!(rt; at(rt, actors, 1).promised() == Some(NEXT));
     goes(rt, actors, heard, GOING_ON);

@@ -102,7 +102,8 @@ fn cuts_by_feed<M: Machine, K: Keeper<M::Body>>(
     mail: &Mail<M::Body>,
     actor: &mut Actor<M, K>,
 )
-    requires { Owns mail.now actor.old.seat }
+    requires owned { Owns mail.now actor.old.seat }
+    requires single { mail.now.most ≡ 1 }
     ensures { Owns mail.now actor.new.seat }
 {
     let mut feed = Cuts::of(actor.me());
@@ -133,6 +134,7 @@ const MOST_ROUNDS: u32 = 1_000;
 // What comes to node 3 is lost.
 fn loses<B: Body>(mail: &Mail<B>, seat: &mut NodeSeat<B>, from: u8)
     requires seat { IsFresh mail.now seat.old }
+    requires single { mail.now.most ≡ 1 }
     requires from { IsMember mail.now.members from }
     ensures { IsFresh mail.now seat.new }
 {
@@ -149,6 +151,7 @@ fn two_turn<M: Machine, K: Keeper<M::Body>>(
     heard: &mut Heard<M::Say>,
 )
     requires one { Owns mail.now one.old.seat }
+    requires single { mail.now.most ≡ 1 }
     requires two { Owns mail.now two.old.seat }
     requires away { IsFresh mail.now away.old }
     requires members { 3 ≤ mail.now.members }
@@ -223,6 +226,7 @@ fn two_cut<M: Machine, K: Keeper<M::Body>>(
     act: M::Body,
 )
     requires one { Owns mail.now one.old.seat }
+    requires single { mail.now.most ≡ 1 }
     requires two { Owns mail.now two.old.seat }
     requires away { IsFresh mail.now away.old }
     requires members { 3 ≤ mail.now.members }
@@ -249,6 +253,7 @@ fn takes_it<M: Machine, K: Keeper<M::Body>>(
     heard: &mut Heard<M::Say>,
 )
     requires one { Owns mail.now one.old.seat }
+    requires single { mail.now.most ≡ 1 }
     requires three { Owns mail.now three.old.seat }
     ensures one { Owns mail.now one.new.seat }
     ensures three { Owns mail.now three.new.seat }
@@ -298,6 +303,7 @@ fn goes_on<M: Machine, K: Keeper<M::Body>>(
     act: M::Body,
 )
     requires one { Owns mail.now one.old.seat }
+    requires single { mail.now.most ≡ 1 }
     requires two { Owns mail.now two.old.seat }
     requires three { Owns mail.now three.old.seat }
     ensures one { Owns mail.now one.new.seat }
@@ -326,6 +332,7 @@ fn is_lost<M: Machine, K: Keeper<M::Body>>(
     heard: &mut Heard<M::Say>,
 )
     requires one { Owns mail.now one.old.seat }
+    requires single { mail.now.most ≡ 1 }
     requires two { Owns mail.now two.old.seat }
     requires three { Owns mail.now three.old.seat }
     ensures one { Owns mail.now one.new.seat }
@@ -352,6 +359,7 @@ fn session<M: Machine, K: Keeper<M::Body>>(
     loses: bool,
 )
     requires one { Owns mail.now one.old.seat }
+    requires single { mail.now.most ≡ 1 }
     requires two { Owns mail.now two.old.seat }
     requires three { Owns mail.now three.old.seat }
     ensures one { Owns mail.now one.new.seat }
@@ -386,6 +394,7 @@ fn cut_at<M: Machine, K: Keeper<M::Body> + Drop, S: Source<M, K>>(
     loses: bool,
 )
     requires fresh { All (IsFresh mail.now) seats.old.items }
+    requires single { mail.now.most ≡ 1 }
     requires members { (members ≡ mail.now.members) × (3 ≤ mail.now.members) }
     ensures { All (Owns mail.now) seats.new.items }
 {

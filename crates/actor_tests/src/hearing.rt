@@ -12,6 +12,7 @@ pub type Answer<Y> = Result<Vec<Y>, ActorFault<Y>>;
 /// What calls answered: what was said, what was said as its node was lost, and the numbers of nodes and of their faults.
 #[derive(Drop)]
 pub struct Heard<Y> {
+    pub alloc: Global,
     pub says: Vec<Y>,
     pub lost: Vec<Y>,
     pub faults: Vec<(u8, u8)>,
@@ -20,6 +21,7 @@ pub struct Heard<Y> {
 impl<Y> Heard<Y> {
     pub fn nothing(alloc: Global) -> Heard<Y> {
         Heard {
+            alloc,
             says: Vec::new(alloc),
             lost: Vec::new(alloc),
             faults: Vec::new(alloc),

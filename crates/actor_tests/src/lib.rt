@@ -6,6 +6,8 @@
 #[cfg(test)]
 mod actors;
 #[cfg(test)]
+mod batches;
+#[cfg(test)]
 mod carrying;
 #[cfg(test)]
 mod check;
@@ -26,11 +28,21 @@ mod outboxes;
 #[cfg(test)]
 mod posting;
 #[cfg(test)]
+mod posting_together;
+#[cfg(test)]
 mod realms;
 #[cfg(test)]
 mod refusing;
 #[cfg(test)]
 mod rotating;
+#[cfg(test)]
+mod round_acts;
+#[cfg(test)]
+mod round_failing;
+#[cfg(test)]
+mod round_telling;
+#[cfg(test)]
+mod rounds;
 #[cfg(test)]
 mod sessions;
 #[cfg(test)]
@@ -43,3 +55,5 @@ mod telling;
 mod threads;
 #[cfg(test)]
 mod trial;
+#[cfg(test)]
+mod voting_twice;

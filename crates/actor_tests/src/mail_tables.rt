@@ -13,6 +13,7 @@ use test_machines::Number;
 // The last seat is node 3's, is the table's, and finds nothing in its boxes.
 fn finds_nothing(rt: &impl Abort, mail: &Mail<Number>, seats: &mut Vec<NodeSeat<Number>>)
     requires owned { All (Owns mail.now) seats.old.items }
+    requires single { mail.now.most ≡ 1 }
     requires members { 3 ≤ mail.now.members }
 {
     let Some(mut seat) = seats.pop() else {

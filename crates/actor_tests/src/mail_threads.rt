@@ -82,6 +82,7 @@ fn first_thread(
 // The thread of node 2 fetches from node 1, again and again; how many packets came.
 fn second_thread(mail: &Mail<Number>, mut two: NodeSeat<Number>) -> u64
     requires owned { Owns mail.now two }
+    requires single { mail.now.most ≡ 1 }
     requires members { 3 ≤ mail.now.members }
 {
     let mut came: u64 = 0;
@@ -108,6 +109,7 @@ fn pass_between(
     members: Members,
 ) -> Result<(), Fail>
     requires one { Owns mail.now one }
+    requires single { mail.now.most ≡ 1 }
     requires two { Owns mail.now two }
     requires never { one.part.seen.opened ≡ Never }
     requires members { (members ≡ mail.now.members) × (3 ≤ mail.now.members) }
@@ -132,6 +134,7 @@ fn pass_by_threads(
     members: Members,
 ) -> Result<(), Fail>
     requires fresh { All (λ s. Owns mail.now s × (s.part.seen.opened ≡ Never)) seats.old.items }
+    requires single { mail.now.most ≡ 1 }
     requires members { (members ≡ mail.now.members) × (3 ≤ mail.now.members) }
 {
     drop(seats.pop());

@@ -61,6 +61,7 @@ fn is_prepare<B: Body>(packet: Packet<B>) -> bool {
 // The node fetches from node 1; what came by then.
 fn fetched<B: Body>(mail: &Mail<B>, seat: &mut NodeSeat<B>, came: Came) -> Came
     requires owned { Owns mail.now seat.old }
+    requires single { mail.now.most ≡ 1 }
     requires members { 3 ≤ mail.now.members }
     ensures { Owns mail.now seat.new }
 {
@@ -81,6 +82,7 @@ fn drained<M: Machine, K: Keeper<M::Body>>(
     three: &mut NodeSeat<M::Body>,
 ) -> (Came, Came)
     requires actor { Owns mail.now actor.old.seat }
+    requires single { mail.now.most ≡ 1 }
     requires two { Owns mail.now two.old }
     requires three { Owns mail.now three.old }
     requires members { 3 ≤ mail.now.members }
@@ -109,6 +111,7 @@ fn keeps_the_newest<M: Machine, K: Keeper<M::Body>>(
     three: &mut NodeSeat<M::Body>,
 )
     requires actor { Owns mail.now actor.old.seat }
+    requires single { mail.now.most ≡ 1 }
     requires two { Owns mail.now two.old }
     requires three { Owns mail.now three.old }
     requires members { 3 ≤ mail.now.members }
@@ -134,6 +137,7 @@ fn hear<M: Machine, K: Keeper<M::Body> + Drop>(
     keeper: K,
 )
     requires fresh { All (IsFresh mail.now) seats.old.items }
+    requires single { mail.now.most ≡ 1 }
     requires members { (members ≡ mail.now.members) × (3 ≤ mail.now.members) }
     requires machine { M.has_failed machine ≡ false }
     ensures { All (Owns mail.now) seats.new.items }

@@ -108,6 +108,7 @@ fn pass(
     second: Packet<Number>,
 )
     requires one { Owns mail.now one.old }
+    requires single { mail.now.most ≡ 1 }
     requires two { Owns mail.now two.old }
     requires members { 3 ≤ mail.now.members }
     requires first { Has one.old.part.seen.sent first × (first.addressee ≡ 2) }
@@ -132,6 +133,7 @@ fn flow(
     members: Members,
 ) -> Result<(), Fail>
     requires fresh { All (λ s. Owns mail.now s × (s.part.seen.opened ≡ Never)) seats.old.items }
+    requires single { mail.now.most ≡ 1 }
     requires members { members ≡ mail.now.members }
 {
     drop(seats.pop());
@@ -154,6 +156,7 @@ fn run(
     members: Members,
 ) -> Result<(), Fail>
     requires one { Owns mail.now one.old }
+    requires single { mail.now.most ≡ 1 }
     requires two { Owns mail.now two.old }
     requires never { one.old.part.seen.opened ≡ Never }
     requires members { members ≡ mail.now.members }
@@ -173,6 +176,7 @@ fn steps(
     node: &mut Node<Number>,
 ) -> Result<(), Fail>
     requires knows { Knows mail.now one.old node.old }
+    requires single { mail.now.most ≡ 1 }
     requires two { Owns mail.now two.old }
     requires members { 3 ≤ mail.now.members }
 {

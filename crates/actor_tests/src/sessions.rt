@@ -1,7 +1,8 @@
 // Sessions of three actors with a realm, whose seats are gathered in the end.
+ghost use Rattle.std.specs.Prelude.{◌≡◌};
 ghost use Rattle.mail_table.specs.Seats.{Owns};
 
-use crate::actors::{Life, all_turns, live, turn};
+use crate::actors::{Life, all_turns, live, live_by_rounds, turn};
 use crate::check::Check;
 use crate::hearing::{Heard, Told, hear, is_log};
 use crate::realms::{are_said, realm, said};
@@ -325,6 +326,20 @@ impl<R: Abort> Life<KeptRealm, MemKeeper<Act>> for Session<'_, R> {
         check!(self.rt; lengths == self.lengths);
         are_said(self.rt, self.alloc, heard.says.as_slice(), WELCOME);
         are_said(self.rt, self.alloc, heard.lost.as_slice(), self.last);
+    }
+}
+
+#[test]
+fn logs_are_gathered_by_rounds(rt: HostRuntime) {
+    for (fate, lengths, last) in ENDS {
+        let mut session = Session {
+            rt: &rt,
+            alloc: rt.alloc(),
+            fate: *fate,
+            lengths,
+            last,
+        };
+        live_by_rounds::<KeptRealm, MemKeeper<Act>, _>(&rt, rt.alloc(), &mut session);
     }
 }
 

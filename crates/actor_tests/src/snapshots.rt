@@ -136,6 +136,7 @@ fn reply(
     node: &mut Node<Number>,
 ) -> Result<(), Fail>
     requires knows { Knows mail.now two.old node.old }
+    requires single { mail.now.most ≡ 1 }
     requires members { 3 ≤ mail.now.members }
     ensures owned { Owns mail.now two.new }
 {
@@ -229,6 +230,7 @@ fn shows_it<M: Machine<Body = Number>, K: Keeper<Number> + Drop>(
     comes: Comes,
 ) -> Result<(), Fail>
     requires fresh { All (IsFresh mail.now) seats.old.items }
+    requires single { mail.now.most ≡ 1 }
     requires members { (members ≡ mail.now.members) × (3 ≤ mail.now.members) }
     requires machine { M.has_failed parts.machine ≡ false }
     requires next { M.has_failed parts.next ≡ false }

@@ -81,8 +81,8 @@ fn again(event: &Event<Number>) -> Option<Event<Number>>
     }
 }
 
-// Keeps the event, or that it is not kept.
-fn keep_event(gave: &mut Vec<Event<Number>>, short: &mut bool, event: &Event<Number>)
+/// Keeps the event, or that it is not kept.
+pub fn keep_event(gave: &mut Vec<Event<Number>>, short: &mut bool, event: &Event<Number>)
     ensures { short.new ≡ false → (short.old ≡ false) × (gave.new.items ≡ gave.old.items ++ event.now ∷ []) }
 {
     let Some(kept) = again(event) else {
@@ -95,8 +95,8 @@ fn keep_event(gave: &mut Vec<Event<Number>>, short: &mut bool, event: &Event<Num
     }
 }
 
-// Keeps what is said, or that it is not kept.
-fn keep_says(got: &mut Vec<Sum>, short: &mut bool, says: &mut Vec<Sum>)
+/// Keeps what is said, or that it is not kept.
+pub fn keep_says(got: &mut Vec<Sum>, short: &mut bool, says: &mut Vec<Sum>)
     ensures { short.new ≡ false → (short.old ≡ false) × (got.new.items ≡ got.old.items ++ says.old.items) }
 {
     if got.append(says).is_err() {
@@ -142,6 +142,7 @@ pub fn run_telling<G: Gate, F: Asks>(
     feed: &mut Telling<F>,
 ) -> bool
     requires owned { Owns mail.now actor.old.seat }
+    requires single { mail.now.most ≡ 1 }
     requires gave { feed.old.gave.items ≡ [] }
     requires got { feed.old.got.items ≡ [] }
     ensures still_owned { Owns mail.now actor.new.seat }

@@ -1,12 +1,14 @@
-// Three nodes, each run on its own thread.
+// Three nodes, each run on its own thread, by turns or by rounds.
+ghost use Rattle.std.specs.Prelude.{◌≡◌, []};
 ghost use Rattle.mail_table.specs.Seats.{Owns};
 
-use crate::actors::{Life, live};
+use crate::actors::{Life, live, live_by_rounds};
 use crate::check::Check;
 use crate::counting::Sum;
 use crate::hearing::Heard;
+use crate::round_telling::{RoundAsks, run_rounds_telling};
 use crate::telling::{Adding, Asks, Telling, is_replay, run_telling};
-use actor_run::{Gate, Seen};
+use actor_run::{Gate, RoundSeen, Seen};
 use mail_table::Mail;
 use node_actor::Event;
 use std::alloc::Global;
@@ -115,8 +117,9 @@ impl<'a> Acts<'a> {
     }
 }
 
-impl<'a> Asks for Acts<'a> {
-    fn next(&mut self, seen: Seen) -> Option<Event<Number>> {
+impl<'a> Acts<'a> {
+    // What the node asks for next, if the last turn or round brought something, or nothing.
+    fn ask(&mut self, came: bool) -> Option<Event<Number>> {
         if self.starts {
             self.starts = false;
             return Some(Event::Start { node: self.node });
@@ -124,13 +127,33 @@ impl<'a> Asks for Acts<'a> {
         if let Some(event) = self.act() {
             return Some(event);
         }
-        self.tick(seen.from.is_some())
+        self.tick(came)
     }
 
-    fn hear(&mut self, says: &[Sum]) {
+    fn count_all(&mut self, says: &[Sum]) {
         for said in says {
             self.count(*said);
         }
+    }
+}
+
+impl<'a> Asks for Acts<'a> {
+    fn next(&mut self, seen: Seen) -> Option<Event<Number>> {
+        self.ask(seen.from.is_some())
+    }
+
+    fn hear(&mut self, says: &[Sum]) {
+        self.count_all(says);
+    }
+}
+
+impl<'a> RoundAsks for Acts<'a> {
+    fn next(&mut self, seen: &RoundSeen<'_>) -> Option<Event<Number>> {
+        self.ask(!seen.came.is_empty())
+    }
+
+    fn hear(&mut self, says: &[Sum]) {
+        self.count_all(says);
     }
 }
 
@@ -142,6 +165,26 @@ struct Ran {
     length: usize,
 }
 
+// Runs the node over a feed that has told nothing yet, by turns, or at a table for batches by rounds. Returns whether no fault ended it.
+fn run_by(
+    alloc: Global,
+    mail: &Mail<Number>,
+    actor: &mut Adding,
+    gate: &Until<'_>,
+    feed: &mut Telling<Acts<'_>>,
+) -> bool
+    requires owned { Owns mail.now actor.old.seat }
+    requires gave { feed.old.gave.items ≡ [] }
+    requires got { feed.old.got.items ≡ [] }
+    ensures { Owns mail.now actor.new.seat }
+{
+    if mail.most() == 1 {
+        run_telling(mail, actor, gate, feed)
+    } else {
+        run_rounds_telling(alloc, mail, actor, gate, feed)
+    }
+}
+
 // The run of a node. Its log is to have what its feed gave, and what its feed got is to be what that log says.
 fn run(alloc: Global, mail: &Mail<Number>, actor: &mut Adding, node: u8, served: &AtomicU64) -> Ran
     requires { Owns mail.now actor.old.seat }
@@ -149,7 +192,7 @@ fn run(alloc: Global, mail: &Mail<Number>, actor: &mut Adding, node: u8, served:
 {
     let mut feed = Telling::of(alloc, Acts::of(node, served));
     let gate = Until { served };
-    let good = run_telling(mail, actor, &gate, &mut feed);
+    let good = run_by(alloc, mail, actor, &gate, &mut feed);
     let same = is_replay(alloc, node, actor.log(), &feed);
     // a run that a fault ends before the others are served ends them, too
     served.fetch_add(3, Ordering::SeqCst);
@@ -270,4 +313,14 @@ fn each_node_answers_its_acts_in_order(rt: HostRuntime) {
         lengths: [0; 7],
     };
     live::<Count, MemKeeper<Number>, _>(&rt, rt.alloc(), &mut side);
+}
+
+#[test]
+fn each_node_answers_its_acts_in_order_by_rounds(rt: HostRuntime) {
+    let mut side = Side {
+        rt: &rt,
+        alloc: rt.alloc(),
+        lengths: [0; 7],
+    };
+    live_by_rounds::<Count, MemKeeper<Number>, _>(&rt, rt.alloc(), &mut side);
 }

@@ -5,7 +5,7 @@ use crate::check::Check;
 use crate::clients::{Client, connect, has_ended, is_closed, is_told, leave, send};
 use crate::floors::{AtFloor, happen_at_floor};
 use crate::rounds::{NODE, comes, gives, next_letter, quiet};
-use actor_run::{Feed, Gate};
+use actor_run::{Gate, RoundFeed};
 use paxos_packets::{Members, Transport};
 use realm_acts::Act;
 use realm_machine::{Out, Say};
@@ -53,7 +53,7 @@ fn say(rt: &impl Abort, alloc: Global, boot: u64, number: u32) -> Say {
 }
 
 // Hands sayings to the transports with these numbers.
-fn hand<F: Feed<Act, Say>>(
+fn hand<F: RoundFeed<Act, Say>>(
     rt: &impl Abort,
     alloc: Global,
     feed: &mut F,
@@ -143,7 +143,7 @@ const HUNG: &[Row] = &[Row {
 }];
 
 // Plays rows.
-fn play<F: Feed<Act, Say>, G: Gate>(
+fn play<F: RoundFeed<Act, Say>, G: Gate>(
     rt: &impl Abort,
     alloc: Global,
     gate: &G,
@@ -164,7 +164,7 @@ fn play<F: Feed<Act, Say>, G: Gate>(
 }
 
 // What two clients do comes out; a PING is answered after what was said before, and what is said in another boot goes nowhere.
-fn acts<F: Feed<Act, Say>, G: Gate>(
+fn acts<F: RoundFeed<Act, Say>, G: Gate>(
     rt: &impl Abort,
     alloc: Global,
     gate: &G,
@@ -182,8 +182,8 @@ fn acts<F: Feed<Act, Say>, G: Gate>(
     is_told(rt, two, "");
 }
 
-// While entries are pending a node that does not lead gives four acts, and one that leads goes on, but while too many packets wait for another.
-fn holds_back<F: Feed<Act, Say>, G: Gate>(
+// A node that does not lead gives acts if no entry is pending, and else none; one that leads goes on, until too many packets wait for another.
+fn holds_back<F: RoundFeed<Act, Say>, G: Gate>(
     rt: &impl Abort,
     alloc: Global,
     gate: &G,
@@ -191,22 +191,27 @@ fn holds_back<F: Feed<Act, Say>, G: Gate>(
     lobby: &Lobby,
     client: &mut Client,
 ) {
-    send(rt, client, "SSSSSSS");
+    send(rt, client, "SSSSSSSS");
+    lobby.stir();
+    gives(rt, alloc, gate, feed, &quiet(), "1S1S1S1S1S1S1S1S");
+    send(rt, client, "SSS");
     lobby.stir();
     let mut seen = quiet();
-    seen.pending = true;
-    gives(rt, alloc, gate, feed, &seen, "1S1S1S1S");
+    seen.pending = 1;
     gives(rt, alloc, gate, feed, &seen, "");
     seen.leads = true;
-    seen.waiting[2] = 257;
+    seen.waiting[2] = 65;
     gives(rt, alloc, gate, feed, &seen, "");
-    seen.waiting[2] = 256;
-    gives(rt, alloc, gate, feed, &seen, "1S1S1S");
+    seen.waiting[2] = 64;
+    seen.pending = 999;
+    gives(rt, alloc, gate, feed, &seen, "1S");
+    seen.pending = 1;
+    gives(rt, alloc, gate, feed, &seen, "1S1S");
 }
 
 // While no act may be given a PING is answered if no message comes before it; a client that has gone before anything of it was given is gone
 // without an act; and what waits is given in order once acts may be given again.
-fn waits<F: Feed<Act, Say>, G: Gate>(
+fn waits<F: RoundFeed<Act, Say>, G: Gate>(
     rt: &impl Abort,
     alloc: Global,
     gate: &G,
@@ -218,12 +223,12 @@ fn waits<F: Feed<Act, Say>, G: Gate>(
 ) {
     let mut three = three;
     let mut seen = quiet();
-    seen.pending = true;
+    seen.pending = 1;
     send(rt, one, "CSSSSP");
     send(rt, two, "CPP");
     send(rt, &mut three, "CSP");
     lobby.stir();
-    gives(rt, alloc, gate, feed, &seen, "1C1S1S1S");
+    gives(rt, alloc, gate, feed, &seen, "");
     is_told(rt, one, "");
     is_told(rt, two, "pp");
     is_told(rt, &mut three, "");
@@ -234,7 +239,7 @@ fn waits<F: Feed<Act, Say>, G: Gate>(
     check!(rt; is_closed(rt, &mut gone));
     is_told(rt, two, "");
     drop::<TcpStream>(gone);
-    gives(rt, alloc, gate, feed, &quiet(), "1S2C2S");
+    gives(rt, alloc, gate, feed, &quiet(), "1C1S1S1S1S2C2S");
     is_told(rt, one, "p");
     is_told(rt, two, "p");
 }
@@ -277,7 +282,7 @@ fn begins_anew(
 }
 
 // Node 1 begins a ballot at once; each node ticks after 64 rounds, and again once it has rested.
-fn ticks<F: Feed<Act, Say>, G: Gate>(
+fn ticks<F: RoundFeed<Act, Say>, G: Gate>(
     rt: &impl Abort,
     alloc: Global,
     gate: &G,
@@ -294,7 +299,7 @@ fn ticks<F: Feed<Act, Say>, G: Gate>(
 }
 
 // While many packets wait for another node no tick comes, unless the node lacks entries: it does not lead, and more than 4,096 slots are open.
-fn ticks_behind<F: Feed<Act, Say>, G: Gate>(
+fn ticks_behind<F: RoundFeed<Act, Say>, G: Gate>(
     rt: &impl Abort,
     alloc: Global,
     gate: &G,
@@ -369,7 +374,7 @@ fn one_more_comes<R: Abort + Net<Listener = TcpListener, Stream = TcpStream>>(
 }
 
 // A client for whom 1,024 sayings wait is slow, until the node finds that the client has hung up.
-fn slow_leaves<F: Feed<Act, Say>, G: Gate>(
+fn slow_leaves<F: RoundFeed<Act, Say>, G: Gate>(
     rt: &impl Abort,
     alloc: Global,
     gate: &G,

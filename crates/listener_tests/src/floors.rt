@@ -4,7 +4,7 @@ use crate::check::Check;
 use crate::clients::{Client, connect, send};
 use crate::feeding::{BOOT, Happens, at_node};
 use crate::rounds::{NODE, comes, gives, quiet, ticks_before};
-use actor_run::{Feed, Gate, Heard, Seen};
+use actor_run::{Gate, Heard, Hearing, RoundFeed, RoundSeen};
 use realm_acts::Act;
 use realm_machine::Say;
 use rtrb::Producer;
@@ -101,23 +101,32 @@ const LENGTHS: &[Length] = &[
     },
 ];
 
-// What a turn showed in which node 1 asked for what was learned from a slot on.
-fn asked(seen: &Seen, first: u64) -> Seen {
-    let mut asked = *seen;
-    asked.from = Some(1);
-    asked.heard = Some(Heard::Ask(first));
-    asked
+// What a packet showed of node 1 that asked for what was learned from a slot on.
+fn asks_from(first: u64) -> [Hearing; 1] {
+    [Hearing {
+        from: 1,
+        heard: Heard::Ask(first),
+    }]
 }
 
-// What a turn showed after which 2,048 packets waited for node 1.
-fn crowded(seen: &Seen) -> Seen {
-    let mut crowded = *seen;
-    crowded.waiting[0] = 2048;
-    crowded
+// What a round showed in which these packets came.
+fn with<'a>(seen: &RoundSeen<'_>, came: &'a [Hearing]) -> RoundSeen<'a> {
+    RoundSeen { came, ..*seen }
+}
+
+// What a round showed in which nothing came, and after which 2,048 packets waited for node 1.
+fn crowded(seen: &RoundSeen<'_>) -> RoundSeen<'static> {
+    let mut waiting = seen.waiting;
+    waiting[0] = 2048;
+    RoundSeen {
+        came: &[],
+        waiting,
+        ..*seen
+    }
 }
 
 // A log that is long enough is cut in the next round, in which nothing else is given.
-fn cuts<F: Feed<Act, Say>, G: Gate>(
+fn cuts<F: RoundFeed<Act, Say>, G: Gate>(
     rt: &impl Abort,
     alloc: Global,
     gate: &G,
@@ -130,12 +139,11 @@ fn cuts<F: Feed<Act, Say>, G: Gate>(
     seen.floor = 8192;
     seen.applied = seen.floor.saturating_add(length.entries);
     seen.waiting[0] = length.waiting;
-    let first = match length.asks {
-        Some(first) => asked(&seen, first),
-        None => seen,
-    };
     send(rt, client, "C");
-    gives(rt, alloc, gate, feed, &first, "");
+    match length.asks {
+        Some(first) => gives(rt, alloc, gate, feed, &with(&seen, &asks_from(first)), ""),
+        None => gives(rt, alloc, gate, feed, &seen, ""),
+    }
     lobby.stir();
     if length.is_cut {
         gives(rt, alloc, gate, feed, &seen, "c");
@@ -147,11 +155,16 @@ fn cuts<F: Feed<Act, Say>, G: Gate>(
 
 // A cut is put off while another node waits for a snapshot, and comes 2,560 beats after that has asked last. From one tick to the next there are
 // five beats, or nine at most.
-fn puts_off<F: Feed<Act, Say>, G: Gate>(rt: &impl Abort, alloc: Global, gate: &G, feed: &mut F) {
+fn puts_off<F: RoundFeed<Act, Say>, G: Gate>(
+    rt: &impl Abort,
+    alloc: Global,
+    gate: &G,
+    feed: &mut F,
+) {
     let mut seen = quiet();
     seen.floor = 8192;
     seen.applied = 12_288;
-    gives(rt, alloc, gate, feed, &asked(&seen, 8192), "");
+    gives(rt, alloc, gate, feed, &with(&seen, &asks_from(8192)), "");
     let ticks = ticks_before(rt, alloc, gate, feed, &seen, "c");
     check!(rt; 285 <= ticks && ticks <= 512, ticks);
 }
@@ -169,7 +182,7 @@ const OWED: &[Owed] = &[Owed::Packets, Owed::Snapshot];
 
 // A cut is put off until the other node has asked for what comes after the entries that it may lack. Members are judged once a beat, so each time
 // it asks after a tick.
-fn owes<F: Feed<Act, Say>, G: Gate>(
+fn owes<F: RoundFeed<Act, Say>, G: Gate>(
     rt: &impl Abort,
     alloc: Global,
     gate: &G,
@@ -179,15 +192,14 @@ fn owes<F: Feed<Act, Say>, G: Gate>(
     let mut seen = quiet();
     seen.floor = 8192;
     seen.applied = 12_288;
-    let first = match owed {
-        Owed::Packets => crowded(&seen),
-        Owed::Snapshot => asked(&seen, 8192),
-    };
-    gives(rt, alloc, gate, feed, &first, "");
+    match owed {
+        Owed::Packets => gives(rt, alloc, gate, feed, &crowded(&seen), ""),
+        Owed::Snapshot => gives(rt, alloc, gate, feed, &with(&seen, &asks_from(8192)), ""),
+    }
     comes(rt, alloc, gate, feed, &seen, "t");
-    gives(rt, alloc, gate, feed, &asked(&seen, 12_288), "");
+    gives(rt, alloc, gate, feed, &with(&seen, &asks_from(12_288)), "");
     comes(rt, alloc, gate, feed, &seen, "t");
-    gives(rt, alloc, gate, feed, &asked(&seen, 12_289), "");
+    gives(rt, alloc, gate, feed, &with(&seen, &asks_from(12_289)), "");
     gives(rt, alloc, gate, feed, &seen, "c");
 }
 
@@ -224,7 +236,7 @@ const ASKS: &[Asks] = &[
 ];
 
 // No act is held back for a node that waits for a snapshot. After the first tick five beats have ended, and acts may be held back.
-fn is_asked<F: Feed<Act, Say>, G: Gate>(
+fn is_asked<F: RoundFeed<Act, Say>, G: Gate>(
     rt: &impl Abort,
     alloc: Global,
     gate: &G,
@@ -240,7 +252,14 @@ fn is_asked<F: Feed<Act, Say>, G: Gate>(
     send(rt, client, "C");
     lobby.stir();
     let wanted = if asks.is_held { "" } else { "1C" };
-    gives(rt, alloc, gate, feed, &asked(&seen, asks.first), wanted);
+    gives(
+        rt,
+        alloc,
+        gate,
+        feed,
+        &with(&seen, &asks_from(asks.first)),
+        wanted,
+    );
 }
 
 // A client arrives at a node with such a log.
@@ -288,12 +307,16 @@ fn is_offered(
 ) {
     let mut seen = quiet();
     seen.applied = 100;
-    let mut offers = seen;
-    offers.from = Some(1);
-    offers.heard = Some(Heard::Snapshot(4196));
-    let mut tells = seen;
-    tells.from = Some(3);
-    tells.heard = Some(Heard::Entries);
+    let snapshot = [Hearing {
+        from: 1,
+        heard: Heard::Snapshot(4196),
+    }];
+    let entries = [Hearing {
+        from: 3,
+        heard: Heard::Entries,
+    }];
+    let offers = with(&seen, &snapshot);
+    let tells = with(&seen, &entries);
     for tick in 0..ticks {
         check!(rt; !feed.is_behind(), tick);
         gives(rt, alloc, gate, feed, &offers, "");
@@ -305,7 +328,7 @@ fn is_offered(
     gives(rt, alloc, gate, feed, &seen, "");
 }
 
-// A node that is behind for good takes no further turn in its boot.
+// A node that is behind for good takes no further round in its boot.
 fn falls_behind(rt: &impl Abort, alloc: Global, gate: &impl Gate, feed: &mut ClientFeed<'_>) {
     is_offered(rt, alloc, gate, feed, TICKS_BEHIND, false);
     check!(rt; feed.is_behind());
@@ -323,7 +346,7 @@ fn may_be_told(rt: &impl Abort, alloc: Global, gate: &impl Gate, feed: &mut Clie
 }
 
 // A round with a cut takes 20 ms, so the next cut comes 380 ms after it at the earliest.
-fn rests<F: Feed<Act, Say>, G: Gate, R: Clock + Abort>(
+fn rests<F: RoundFeed<Act, Say>, G: Gate, R: Clock + Abort>(
     rt: &R,
     alloc: Global,
     gate: &G,

@@ -1,6 +1,6 @@
 // Rounds of a node over a feed: the events that come out of it, by letters.
 use crate::check::Check;
-use actor_run::{Feed, Gate, Seen};
+use actor_run::{Gate, RoundFeed, RoundSeen};
 use paxos_node::Event;
 use paxos_packets::NodeSet;
 use realm_acts::Act;
@@ -11,14 +11,13 @@ use test_checks::check_eq;
 
 pub const NODE: u8 = 2;
 
-// What the last turn showed, if nothing happened in it.
-pub fn quiet() -> Seen {
-    Seen {
-        from: None,
-        heard: None,
+// What the last round showed, if nothing happened in it.
+pub fn quiet() -> RoundSeen<'static> {
+    RoundSeen {
+        came: &[],
         applied: 0,
         floor: 0,
-        pending: false,
+        pending: 0,
         posted: NodeSet::new(),
         waiting: [0; 7],
         commits: 0,
@@ -53,8 +52,11 @@ fn letters_of(event: &Event<Act>) -> (Option<char>, char) {
 }
 
 // The letters of the feed's next event.
-fn next_event<F: Feed<Act, Say>>(feed: &mut F, seen: &Seen) -> Option<(Option<char>, char)> {
-    let Some(event) = feed.next(*seen) else {
+fn next_event<F: RoundFeed<Act, Say>>(
+    feed: &mut F,
+    seen: &RoundSeen<'_>,
+) -> Option<(Option<char>, char)> {
+    let Some(event) = feed.next(seen) else {
         return None;
     };
     let letters = letters_of(&event);
@@ -62,18 +64,18 @@ fn next_event<F: Feed<Act, Say>>(feed: &mut F, seen: &Seen) -> Option<(Option<ch
     Some(letters)
 }
 
-// The letter of the feed's next event, if the last turn brought nothing.
-pub fn next_letter<F: Feed<Act, Say>>(feed: &mut F) -> Option<char> {
+// The letter of the feed's next event, if the last round brought nothing.
+pub fn next_letter<F: RoundFeed<Act, Say>>(feed: &mut F) -> Option<char> {
     let (_, letter) = next_event(feed, &quiet())?;
     Some(letter)
 }
 
 // Appends the letters of a round's events.
-fn put_round<F: Feed<Act, Say>, G: Gate>(
+fn put_round<F: RoundFeed<Act, Say>, G: Gate>(
     rt: &impl Abort,
     gate: &G,
     feed: &mut F,
-    seen: &Seen,
+    seen: &RoundSeen<'_>,
     letters: &mut String,
 ) {
     if !gate.pass(NODE, 1) {
@@ -91,12 +93,12 @@ fn put_round<F: Feed<Act, Say>, G: Gate>(
 }
 
 // The events of a round have these letters.
-pub fn gives<F: Feed<Act, Say>, G: Gate>(
+pub fn gives<F: RoundFeed<Act, Say>, G: Gate>(
     rt: &impl Abort,
     alloc: Global,
     gate: &G,
     feed: &mut F,
-    seen: &Seen,
+    seen: &RoundSeen<'_>,
     wanted: &str,
 ) {
     let mut letters = String::new(alloc);
@@ -106,11 +108,11 @@ pub fn gives<F: Feed<Act, Say>, G: Gate>(
 }
 
 // Appends the letters of the first round with events. Returns which round that was.
-fn first_event<F: Feed<Act, Say>, G: Gate>(
+fn first_event<F: RoundFeed<Act, Say>, G: Gate>(
     rt: &impl Abort,
     gate: &G,
     feed: &mut F,
-    seen: &Seen,
+    seen: &RoundSeen<'_>,
     letters: &mut String,
 ) -> u32 {
     for count in 1..1000 {
@@ -123,12 +125,12 @@ fn first_event<F: Feed<Act, Say>, G: Gate>(
 }
 
 // The first event has this letter. Returns in which round it came.
-pub fn comes<F: Feed<Act, Say>, G: Gate>(
+pub fn comes<F: RoundFeed<Act, Say>, G: Gate>(
     rt: &impl Abort,
     alloc: Global,
     gate: &G,
     feed: &mut F,
-    seen: &Seen,
+    seen: &RoundSeen<'_>,
     letter: &str,
 ) -> u32 {
     let mut letters = String::new(alloc);
@@ -139,12 +141,12 @@ pub fn comes<F: Feed<Act, Say>, G: Gate>(
 }
 
 // Ticks come, and then an event with this letter. Returns how many ticks there were.
-pub fn ticks_before<F: Feed<Act, Say>, G: Gate>(
+pub fn ticks_before<F: RoundFeed<Act, Say>, G: Gate>(
     rt: &impl Abort,
     alloc: Global,
     gate: &G,
     feed: &mut F,
-    seen: &Seen,
+    seen: &RoundSeen<'_>,
     letter: &str,
 ) -> u32 {
     let mut letters = String::new(alloc);

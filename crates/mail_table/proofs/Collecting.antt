@@ -33,16 +33,16 @@ use Rattle.replica_machine.specs.Roll.{standing}
 use Rattle.mail_table.proofs.Covering.{shown}
 use Rattle.mail_table.proofs.Moving.{behind_has}
 use Rattle.mail_table.proofs.Parcels.{box_ahead}
-use Rattle.mail_table.specs.Boxes.{Fits, IsAhead, Kept}
+use Rattle.mail_table.specs.Boxes.{Fits, IsAhead, Kept, Placed}
 use Rattle.mail_table.specs.Covered.{Covers, Matches}
 use Rattle.mail_table.specs.Gathered.{Gathered, Opening, PostsArrive, IsWholeLog, ShowsLog, LogsAgree, LearnersAgree}
 use Rattle.mail_table.specs.Seats.{Mailed, Seated, all_sit, is_whole, parts_of}
 use Rattle.mail_table.specs.Views.{box_of, length_shown, through}
 use Rattle.mail_table.specs.declared.part.Part.{Part}
 
-module _ {B : Type 0} (same : B → B → Bool) (n : ℕ) where
+module _ {B : Type 0} (same : B → B → Bool) (n most : ℕ) where
   -- one view more is taken in
-  pub joins : (id : ℕ) (v : List (Part B)) (other : ℕ) (w : List (Part B)) → Joins (Kept {B = B} same n) id v other w (v ++ w) []
+  pub joins : (id : ℕ) (v : List (Part B)) (other : ℕ) (w : List (Part B)) → Joins (Kept {B = B} same n most) id v other w (v ++ w) []
   joins id v other w s kept at apart at_w =
       record {
         part = kept.part;
@@ -106,9 +106,9 @@ module _ {B : Type 0} (same : B → B → Bool) (n : ℕ) where
       ⊎_elim (λ (e : z ≡ x). subst (λ y. part y.me ≡ y) e f.0) (λ t. fit_mine part seat j zs f.2 x t) (has_cons h)
 
   -- a view with the parts of all nodes knows them, once no seat is left
-  pub gathers : (id : ℕ) (v parts : List (Part B)) (words : List ℕ) (slots : List (Option (Packet B)))
-      → Final (Seen (Kept {B = B} same n) id v) words slots → ((x : Part B) → Has parts x → Has v x)
-      → ((k : ℕ) → IsMember n k → (x : Part B) × Has parts x × (x.me ≡ k)) → Gathered same n parts
+  pub gathers : (id : ℕ) (v parts : List (Part B)) (words : List ℕ) (slots : List (Placed B))
+      → Final (Seen (Kept {B = B} same n most) id v) words slots → ((x : Part B) → Has parts x → Has v x)
+      → ((k : ℕ) → IsMember n k → (x : Part B) × Has parts x × (x.me ≡ k)) → Gathered same n most parts
   gathers id v parts words slots f among sit =
       let kept = f.1.0 in
       let mine : (x : Part B) → Has parts x → kept.part x.me ≡ x = λ x h. fit_mine kept.part kept.seat id v (kept.fits id v f.1.1) x
@@ -120,16 +120,16 @@ module _ {B : Type 0} (same : B → B → Bool) (n : ℕ) where
         named = λ k m. let t = sit k m in ap (λ (z : Part B). z.me) (sym (ap kept.part t.2) ∙ mine t.0 t.1) ∙ t.2;
         covered = kept.covered;
         posted = kept.posted;
-        boxes = λ a b ma mb. box_ahead f.0.homes (box_of n a b) _ _ _ _ _ (kept.boxes a b ma mb);
+        boxes = λ a b ma mb. box_ahead most f.0.homes (box_of n a b) _ _ _ _ _ (kept.boxes a b ma mb);
       }
 
   -- what was posted arrives
-  pub posts_arrive : (parts : List (Part B)) → Gathered same n parts → PostsArrive n parts
+  pub posts_arrive : (parts : List (Part B)) → Gathered same n most parts → PostsArrive n most parts
   posts_arrive parts g x y hx hy mx my =
-      subst (λ (z : Part B × Part B). IsAhead (through (box_of n x.me y.me) z.0.posted) (through (box_of n x.me y.me) z.1.received))
+      subst (λ (z : Part B × Part B). IsAhead most (through (box_of n x.me y.me) z.0.posted) (through (box_of n x.me y.me) z.1.received))
       (λ i. (g.mine x hx i, g.mine y hy i)) (g.boxes x.me y.me mx my)
 
-  covers : (parts : List (Part B)) (g : Gathered same n parts) (rows : ℕ → Rows B) → Opening same n parts rows
+  covers : (parts : List (Part B)) (g : Gathered same n most parts) (rows : ℕ → Rows B) → Opening same n parts rows
       → Covers same n (λ k. (g.part k).seen) rows
   covers parts g rows o =
       g.covered rows
@@ -148,7 +148,7 @@ module _ {B : Type 0} (same : B → B → Bool) (n : ℕ) where
     prefix_by (With r) (With q) v w p = p
 
     -- an opened node of a part is the world's
-    node_shown : (parts : List (Part B)) (g : Gathered same n parts) (rows : ℕ → Rows B) (o : Opening same n parts rows) (x : Part B)
+    node_shown : (parts : List (Part B)) (g : Gathered same n most parts) (rows : ℕ → Rows B) (o : Opening same n parts rows) (x : Part B)
         → Has parts x
         → IsMember n x.me → (r : Rows B) → x.seen.opened ≡ With r
         → node_at (played same n (covers parts g rows o).events).nodes x.me ≡ x.seen.node
@@ -181,7 +181,7 @@ module _ {B : Type 0} (same : B → B → Bool) (n : ℕ) where
       is_so_long true = length-append (under cuts x.rows.snapshot) x.applied ∙ ap (λ m. m + length x.applied) long
       is_so_long false = refl
 
-    pub logs_agree : n ≤ 7 → (parts : List (Part B)) → Gathered same n parts → LogsAgree same n parts
+    pub logs_agree : n ≤ 7 → (parts : List (Part B)) → Gathered same n most parts → LogsAgree same n parts
     logs_agree few parts g rows o =
         record {
           log = log;
@@ -226,14 +226,14 @@ module _ {B : Type 0} (same : B → B → Bool) (n : ℕ) where
             at Never i = never
             at (With r) i = opened r i
 
-    pub learners_agree : (parts : List (Part B)) → Gathered same n parts → LearnersAgree same n parts
+    pub learners_agree : (parts : List (Part B)) → Gathered same n most parts → LearnersAgree same n parts
     learners_agree parts g rows o x y hx hy mx my a p slot e ma h kind r f opened learned at =
         let c = covers parts g rows o in
         let w = played same n c.events in
         let got : Has (through (box_of n a x.me) (g.part x.me).received) p = subst (λ (z : Part B). Has (through (box_of n a x.me)
         z.received) p) (sym (g.mine x hx)) h in
         let sent : Has (g.part a).seen.sent p =
-        (g.posted a ma x.me p mx (behind_has (through (box_of n a x.me) (g.part a).posted) (through (box_of n a x.me) (g.part
+        (g.posted a ma x.me p mx (behind_has most (through (box_of n a x.me) (g.part a).posted) (through (box_of n a x.me) (g.part
         x.me).received) p (g.boxes a x.me ma mx) got)).0 in
         let told = told_is_chosen same equal n many c.events p.sender slot e (
           p.addressee,

@@ -37,9 +37,9 @@ home_first zero i a l = absurd (omega arith)
 home_first (suc m) zero a l = refl
 home_first (suc m) (suc i) a l = home_first m i a (omega arith)
 
-module _ {B : Type 0} (same : B → B → Bool) (n : ℕ) where
+module _ {B : Type 0} (same : B → B → Bool) (n most : ℕ) where
   pub begins : (words : List ℕ) → length words ≡ 8 * (n * n + n) → ((i : ℕ) → slice_index words i ≡ 0)
-      → Kept {B = B} same n (opening words (replicate (8 * (n * n)) None) (rising 0 n))
+      → Kept {B = B} same n most (opening words (replicate (8 * (n * n)) None) (rising 0 n))
   begins words long zeros =
       record {
         part = unopened;
@@ -58,7 +58,7 @@ module _ {B : Type 0} (same : B → B → Bool) (n : ℕ) where
       one (suc j) v e = absurd (some-ne-none v (sym e))
 
   -- the founder hands out the seat of its first node
-  pub splits : (id k m : ℕ) → Splits (Kept {B = B} same n) id (rising k (suc m)) (rising (suc k) m) (unopened (suc k) ∷ [])
+  pub splits : (id k m : ℕ) → Splits (Kept {B = B} same n most) id (rising k (suc m)) (rising (suc k) m) (unopened (suc k) ∷ [])
   splits id k m s kept at =
       record {
         part = kept.part;
@@ -120,10 +120,10 @@ length_seats B m (suc k) = let e = length_seats B m k in length-append (new_seat
 
 module _ {B : Type 0} where
   -- the founder, that seat, and what it knows then
-  pub splits_at : (same : B → B → Bool) (n id below p : ℕ) (v : List (Part B)) → v ≡ rising below (suc p)
-      → Splits (Kept same n) id v (behind_first v) (first_alone v)
-  splits_at same n id below p v e = subst (λ z. Splits (Kept same n) id z (behind_first z) (first_alone z)) (sym e) (splits same n id
-      below p)
+  pub splits_at : (same : B → B → Bool) (n most id below p : ℕ) (v : List (Part B)) → v ≡ rising below (suc p)
+      → Splits (Kept same n most) id v (behind_first v) (first_alone v)
+  splits_at same n most id below p v e =
+      subst (λ z. Splits (Kept same n most) id z (behind_first z) (first_alone z)) (sym e) (splits same n most id below p)
 
   pub seat_is : (below p : ℕ) (v : List (Part B)) (me : Sat B) → v ≡ rising below (suc p) → me ≡ (first_alone v, [])
       → me ≡ sits (unopened (below + 1)) []

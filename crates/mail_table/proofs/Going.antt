@@ -1,6 +1,6 @@
 -- One seat takes a step: what is owed for it, and that the rule holds then.
 use Rattle.std.proofs.Common.{◌≡◌, ◌≢◌, ℕ, suc, ◌+◌, ◌*◌, ◌<◌, ◌⊎◌, Bool, refl, sym, ap}
-use Rattle.std.proofs.Common.{◌∙◌, subst, ⊎_elim, arith, List, [], ◌∷◌, ◌++◌, length, set, get_or, Option}
+use Rattle.std.proofs.Common.{◌∙◌, subst, ⊎_elim, arith, List, [], ◌∷◌, ◌++◌, length, set, get_or}
 use Rattle.std.proofs.lemmas.Bool.{cases_eq}
 use Rattle.std.proofs.lemmas.List.{get_or-set_same, get_or-set_other, length-set}
 use Rattle.std.specs.Prelude.{slice_index}
@@ -10,12 +10,11 @@ use lib.ListN.{get_elem?}
 use Rattle.atomic_table.proofs.Lists.{at_set}
 use Rattle.atomic_table.specs.Table.{State}
 use Rattle.paxos_packets.specs.Members.{IsMember}
-use Rattle.paxos_packets.specs.declared.packet.Packet.{Packet}
 use Rattle.paxos_node.specs.View.{Viewed}
 use Rattle.mail_table.proofs.Covering.{covered_same}
 use Rattle.mail_table.proofs.Parcels.{box_same}
 use Rattle.mail_table.proofs.Places.{at_mine, at_other, at_both, box_tells, apart, word_tells}
-use Rattle.mail_table.specs.Boxes.{Box, Fits, Posted, Kept, word_of}
+use Rattle.mail_table.specs.Boxes.{Box, Fits, Placed, Posted, Kept, word_of}
 use Rattle.mail_table.specs.Covered.{Covered, with_at}
 use Rattle.mail_table.specs.Views.{box_of, through, is_sending, is_taking}
 use Rattle.mail_table.specs.declared.part.Part.{Part}
@@ -31,7 +30,7 @@ pub record Takes {B : Type 0} (i : ℕ) (y x : Part B) : Type 0 where
   pub received : through i y.received ≡ through i x.received
 
 -- the seat id, which knew x alone, knows y alone
-module _ {B : Type 0} (same : B → B → Bool) (n : ℕ) (s : State (Option (Packet B)) (List (Part B))) (kept : Kept same n s) (id : ℕ) (x
+module _ {B : Type 0} (same : B → B → Bool) (n most : ℕ) (s : State (Placed B) (List (Part B))) (kept : Kept same n most s) (id : ℕ) (x
     y : Part B)
     (at : get_elem? s.views id ≡ some (x ∷ [])) (me : y.me ≡ x.me) where
   pub mine : kept.part x.me ≡ x
@@ -76,13 +75,13 @@ module _ {B : Type 0} (same : B → B → Bool) (n : ℕ) (s : State (Option (Pa
       (at_set s.views id j (y ∷ []) v e)
 
   -- what is owed if the word i becomes m
-  pub record Owed (i m : ℕ) (homes : List (core.Option (Option (Packet B)))) : Type 0 where
+  pub record Owed (i m : ℕ) (homes : List (core.Option (Placed B))) : Type 0 where
     pub high : length homes ≡ length s.homes
     pub else_home : (j : ℕ) → (j ≡ i → ⊥) → get_elem? homes j ≡ get_elem? s.homes j
     pub sends : (j : ℕ) → (j ≡ i → ⊥) → Sends j y x
     pub takes : (j : ℕ) → (j ≡ i → ⊥) → Takes j y x
     pub box : (a b : ℕ) → IsMember n a → IsMember n b → box_of n a b ≡ i
-        → Box homes i m (is_sending (next_part a).doing i) (is_taking (next_part b).doing i) (through i (next_part a).posted)
+        → Box most homes i m (is_sending (next_part a).doing i) (is_taking (next_part b).doing i) (through i (next_part a).posted)
         (through i (next_part b).received)
     pub covered : Covered same n (with_at (λ k. (kept.part k).seen) x.me y.seen)
     pub posted : Posted n x.me y
@@ -94,8 +93,8 @@ module _ {B : Type 0} (same : B → B → Bool) (n : ℕ) (s : State (Option (Pa
       x.me y.seen)
       (λ k d. at_other (λ k. (kept.part k).seen) x.me y.seen k d)
 
-  pub goes : (i m : ℕ) (homes : List (core.Option (Option (Packet B)))) → i < length s.words → Owed i m homes
-      → Kept same n (record { words = set s.words i m; homes = homes; views = set s.views id (y ∷ []) })
+  pub goes : (i m : ℕ) (homes : List (core.Option (Placed B))) → i < length s.words → Owed i m homes
+      → Kept same n most (record { words = set s.words i m; homes = homes; views = set s.views id (y ∷ []) })
   goes i m homes low o =
       record {
         part = next_part;
@@ -110,23 +109,23 @@ module _ {B : Type 0} (same : B → B → Bool) (n : ℕ) (s : State (Option (Pa
       }
     where
       hit : (a b : ℕ) → IsMember n a → IsMember n b → box_of n a b ≡ i
-          → Box homes (box_of n a b) (slice_index (set s.words i m) (box_of n a b)) (is_sending (next_part a).doing (box_of n a b))
+          → Box most homes (box_of n a b) (slice_index (set s.words i m) (box_of n a b)) (is_sending (next_part a).doing (box_of n a b))
           (is_taking (next_part b).doing (box_of n a b)) (through (box_of n a b) (next_part a).posted)
           (through (box_of n a b) (next_part b).received)
       hit a b ma mb e =
-          subst (λ j. Box homes j (slice_index (set s.words i m) j) (is_sending (next_part a).doing j) (is_taking (next_part b).doing j)
+          subst (λ j. Box most homes j (slice_index (set s.words i m) j) (is_sending (next_part a).doing j) (is_taking (next_part b).doing j)
           (through j (next_part a).posted) (through j (next_part b).received)) (sym e)
-          (subst (λ w. Box homes i w (is_sending (next_part a).doing i) (is_taking (next_part b).doing i) (through i (next_part a).posted)
+          (subst (λ w. Box most homes i w (is_sending (next_part a).doing i) (is_taking (next_part b).doing i) (through i (next_part a).posted)
           (through i (next_part b).received)) (sym (get_or-set_same s.words i m 0 low)) (o.box a b ma mb e))
 
       miss : (a b : ℕ) → IsMember n a → IsMember n b → (box_of n a b ≡ i → ⊥)
-          → Box homes (box_of n a b) (slice_index (set s.words i m) (box_of n a b)) (is_sending (next_part a).doing (box_of n a b))
+          → Box most homes (box_of n a b) (slice_index (set s.words i m) (box_of n a b)) (is_sending (next_part a).doing (box_of n a b))
           (is_taking (next_part b).doing (box_of n a b)) (through (box_of n a b) (next_part a).posted)
           (through (box_of n a b) (next_part b).received)
       miss a b ma mb d =
           let f = sends_on (box_of n a b) (o.sends (box_of n a b) d) a in
           let g = takes_on (box_of n a b) (o.takes (box_of n a b) d) b in
-          box_same s.homes homes (box_of n a b) _ _ _ _ _ _ _ _ _ _ (kept.boxes a b ma mb) (o.else_home (box_of n a b) d)
+          box_same most s.homes homes (box_of n a b) _ _ _ _ _ _ _ _ _ _ (kept.boxes a b ma mb) (o.else_home (box_of n a b) d)
           (get_or-set_other s.words i (box_of n a b) m 0 d) f.doing g.doing f.posted g.received
 
   -- what is the same in every step on a box
@@ -152,66 +151,66 @@ module _ {B : Type 0} (same : B → B → Bool) (n : ℕ) (s : State (Option (Pa
   -- the box on which the step is, seen from its sender or its addressee
 
   pub box_sent : (b i : ℕ) → IsMember n x.me → IsMember n b → i ≡ box_of n x.me b
-      → Box s.homes i (slice_index s.words i) (is_sending x.doing i) (is_taking (kept.part b).doing i) (through i x.posted)
+      → Box most s.homes i (slice_index s.words i) (is_sending x.doing i) (is_taking (kept.part b).doing i) (through i x.posted)
       (through i (kept.part b).received)
   box_sent b i mx mb e =
-      subst (λ j. Box s.homes j (slice_index s.words j) (is_sending x.doing j) (is_taking (kept.part b).doing j) (through j x.posted)
+      subst (λ j. Box most s.homes j (slice_index s.words j) (is_sending x.doing j) (is_taking (kept.part b).doing j) (through j x.posted)
       (through j (kept.part b).received)) (sym e)
-      (subst (λ (z : Part B). Box s.homes (box_of n x.me b) (slice_index s.words (box_of n x.me b)) (is_sending z.doing (box_of n x.me b))
+      (subst (λ (z : Part B). Box most s.homes (box_of n x.me b) (slice_index s.words (box_of n x.me b)) (is_sending z.doing (box_of n x.me b))
       (is_taking (kept.part b).doing (box_of n x.me b)) (through (box_of n x.me b) z.posted) (through (box_of n x.me b) (kept.part
       b).received))
       mine (kept.boxes x.me b mx mb))
 
   pub box_taken : (a i : ℕ) → IsMember n a → IsMember n x.me → i ≡ box_of n a x.me
-      → Box s.homes i (slice_index s.words i) (is_sending (kept.part a).doing i) (is_taking x.doing i) (through i (kept.part a).posted)
+      → Box most s.homes i (slice_index s.words i) (is_sending (kept.part a).doing i) (is_taking x.doing i) (through i (kept.part a).posted)
       (through i x.received)
   box_taken a i ma mx e =
-      subst (λ j. Box s.homes j (slice_index s.words j) (is_sending (kept.part a).doing j) (is_taking x.doing j) (through j (kept.part
+      subst (λ j. Box most s.homes j (slice_index s.words j) (is_sending (kept.part a).doing j) (is_taking x.doing j) (through j (kept.part
       a).posted)
       (through j x.received)) (sym e)
-      (subst (λ (z : Part B). Box s.homes (box_of n a x.me) (slice_index s.words (box_of n a x.me)) (is_sending (kept.part a).doing
+      (subst (λ (z : Part B). Box most s.homes (box_of n a x.me) (slice_index s.words (box_of n a x.me)) (is_sending (kept.part a).doing
       (box_of n a x.me))
       (is_taking z.doing (box_of n a x.me)) (through (box_of n a x.me) (kept.part a).posted) (through (box_of n a x.me) z.received))
       mine (kept.boxes a x.me ma mx))
 
-  pub owed_sent : (b i m : ℕ) (homes : List (core.Option (Option (Packet B)))) → IsMember n x.me → IsMember n b → i ≡ box_of n x.me b
+  pub owed_sent : (b i m : ℕ) (homes : List (core.Option (Placed B))) → IsMember n x.me → IsMember n b → i ≡ box_of n x.me b
       → Takes i y x
-      → Box homes i m (is_sending y.doing i) (is_taking (kept.part b).doing i) (through i y.posted) (through i (kept.part b).received)
+      → Box most homes i m (is_sending y.doing i) (is_taking (kept.part b).doing i) (through i y.posted) (through i (kept.part b).received)
       → (c d : ℕ) → IsMember n c → IsMember n d → box_of n c d ≡ i
-      → Box homes i m (is_sending (next_part c).doing i) (is_taking (next_part d).doing i) (through i (next_part c).posted)
+      → Box most homes i m (is_sending (next_part c).doing i) (is_taking (next_part d).doing i) (through i (next_part c).posted)
       (through i (next_part d).received)
   owed_sent b i m homes mx mb is t h c d mc md e =
       let k = box_tells n c d x.me b mc md mx mb (e ∙ is) in
       let p : next_part c ≡ y = ap next_part k.0 ∙ next_mine in
       let q = takes_on i t b in
       let r : next_part d ≡ next_part b = ap next_part k.1 in
-      box_same homes homes i _ _ _ _ _ _ _ _ _ _ h refl refl (ap (λ (z : Part B). is_sending z.doing i) p)
+      box_same most homes homes i _ _ _ _ _ _ _ _ _ _ h refl refl (ap (λ (z : Part B). is_sending z.doing i) p)
       (ap (λ (z : Part B). is_taking z.doing i) r ∙ q.doing) (ap (λ (z : Part B). through i z.posted) p)
       (ap (λ (z : Part B). through i z.received) r ∙ q.received)
 
-  pub owed_taken : (a i m : ℕ) (homes : List (core.Option (Option (Packet B)))) → IsMember n a → IsMember n x.me
+  pub owed_taken : (a i m : ℕ) (homes : List (core.Option (Placed B))) → IsMember n a → IsMember n x.me
       → i ≡ box_of n a x.me → Sends i y x
-      → Box homes i m (is_sending (kept.part a).doing i) (is_taking y.doing i) (through i (kept.part a).posted) (through i y.received)
+      → Box most homes i m (is_sending (kept.part a).doing i) (is_taking y.doing i) (through i (kept.part a).posted) (through i y.received)
       → (c d : ℕ) → IsMember n c → IsMember n d → box_of n c d ≡ i
-      → Box homes i m (is_sending (next_part c).doing i) (is_taking (next_part d).doing i) (through i (next_part c).posted)
+      → Box most homes i m (is_sending (next_part c).doing i) (is_taking (next_part d).doing i) (through i (next_part c).posted)
       (through i (next_part d).received)
   owed_taken a i m homes ma mx is t h c d mc md e =
       let k = box_tells n c d a x.me mc md ma mx (e ∙ is) in
       let p : next_part d ≡ y = ap next_part k.1 ∙ next_mine in
       let q = sends_on i t a in
       let r : next_part c ≡ next_part a = ap next_part k.0 in
-      box_same homes homes i _ _ _ _ _ _ _ _ _ _ h refl refl (ap (λ (z : Part B). is_sending z.doing i) r ∙ q.doing)
+      box_same most homes homes i _ _ _ _ _ _ _ _ _ _ h refl refl (ap (λ (z : Part B). is_sending z.doing i) r ∙ q.doing)
       (ap (λ (z : Part B). is_taking z.doing i) p) (ap (λ (z : Part B). through i z.posted) r ∙ q.posted)
       (ap (λ (z : Part B). through i z.received) p)
 
   -- a box of which nothing changed, in the new parts
   pub owed_none : (i m : ℕ) → Sends i y x → Takes i y x → m ≡ slice_index s.words i
       → (c d : ℕ) → IsMember n c → IsMember n d → box_of n c d ≡ i
-      → Box s.homes i m (is_sending (next_part c).doing i) (is_taking (next_part d).doing i) (through i (next_part c).posted)
+      → Box most s.homes i m (is_sending (next_part c).doing i) (is_taking (next_part d).doing i) (through i (next_part c).posted)
       (through i (next_part d).received)
   owed_none i m f g w c d mc md e =
-      let old = subst (λ j. Box s.homes j (slice_index s.words j) (is_sending (kept.part c).doing j) (is_taking (kept.part d).doing j)
+      let old = subst (λ j. Box most s.homes j (slice_index s.words j) (is_sending (kept.part c).doing j) (is_taking (kept.part d).doing j)
       (through j (kept.part c).posted) (through j (kept.part d).received)) e (kept.boxes c d mc md) in
       let p = sends_on i f c in
       let q = takes_on i g d in
-      box_same s.homes s.homes i _ _ _ _ _ _ _ _ _ _ old refl w p.doing q.doing p.posted q.received
+      box_same most s.homes s.homes i _ _ _ _ _ _ _ _ _ _ old refl w p.doing q.doing p.posted q.received

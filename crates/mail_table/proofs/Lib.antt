@@ -9,3 +9,4 @@ pub mod Moving
 pub mod Naming
 pub mod Dealing
 pub mod Collecting
+pub mod Singles

@@ -1,6 +1,6 @@
 -- A node takes a step of the core, or begins anew: its word counts one event more.
-use Rattle.std.proofs.Common.{◌≡◌, ℕ, suc, ◌+◌, ◌*◌, ◌%◌, ◌^◌, ◌<◌, ◌⊎◌, Bool, true, refl}
-use Rattle.std.proofs.Common.{sym, ap, ◌∙◌, subst, ⊎_elim, arith, List, [], ◌∷◌, ◌++◌, length, set, Option}
+use Rattle.std.proofs.Common.{◌≡◌, ℕ, suc, ◌+◌, ◌*◌, ◌%◌, ◌^◌, ◌<◌, Bool, true, refl}
+use Rattle.std.proofs.Common.{sym, ap, ◌∙◌, subst, arith, List, [], ◌∷◌, ◌++◌, length, set}
 use Rattle.std.proofs.Math.Nat.{mod-eq_of_lt}
 use Rattle.std.proofs.lemmas.List.{get_or-set_same, get_or-set_other}
 use Rattle.std.specs.Prelude.{slice_index}
@@ -26,34 +26,34 @@ use Rattle.mail_table.proofs.Going.{Sends, Takes, Owed, goes, mine, box_taken}
 use Rattle.mail_table.proofs.Parcels.{box_ahead}
 use Rattle.mail_table.proofs.Places.{at_both, apart, word_tells, word_below}
 use Rattle.mail_table.proofs.Posting.{Next}
-use Rattle.mail_table.specs.Boxes.{Kept, Posted, Received, Follows, Sat, sits, IsAhead, Advances, Renews, word_of}
+use Rattle.mail_table.specs.Boxes.{Kept, Placed, Posted, Received, Follows, Sat, sits, IsAhead, Advances, Renews, word_of}
 use Rattle.mail_table.specs.Covered.{Covered, Fed, MayRenew, with_at}
 use Rattle.mail_table.specs.Views.{box_of, only, through, moving, renewing, reopened}
 use Rattle.mail_table.specs.declared.part.Part.{Part}
 
-pub behind_has : {B : Type 0} (posted received : List (Packet B)) (p : Packet B) → IsAhead posted received → Has received p → Has posted p
-behind_has posted received p a h =
-    ⊎_elim (λ e. subst (λ z. Has z p) (sym e) h) (λ t. subst (λ z. Has z p) (sym t.1) (has_left (t.0 ∷ []) h)) a
+pub behind_has : {B : Type 0} (most : ℕ) (posted received : List (Packet B)) (p : Packet B) → IsAhead most posted received → Has received p
+    → Has posted p
+behind_has most posted received p a h = subst (λ z. Has z p) (sym a.2) (has_left a.0 h)
 
-module _ {B : Type 0} (same : B → B → Bool) (n : ℕ) (x : Part B) (id i : ℕ) (member : IsMember n x.me) (is : i ≡ word_of n x.me)
+module _ {B : Type 0} (same : B → B → Bool) (n most : ℕ) (x : Part B) (id i : ℕ) (member : IsMember n x.me) (is : i ≡ word_of n x.me)
     (room : x.events < 2 ^ 62) where
   -- any step that leaves the boxes alone, and after which the views are covered
-  counts : (s : State (Option (Packet B)) (List (Part B))) (kept : Kept same n s) → get_elem? s.views id ≡ some (x ∷ []) → (y : Part B)
+  counts : (s : State (Placed B) (List (Part B))) (kept : Kept same n most s) → get_elem? s.views id ≡ some (x ∷ []) → (y : Part B)
       → y.me ≡ x.me → ((j : ℕ) → Sends j y x) → ((j : ℕ) → Takes j y x) → y.events ≡ suc x.events
       → Covered same n (with_at (λ k. (kept.part k).seen) x.me y.seen) → (Posted n x.me x → Posted n x.me y)
-      → Next same n s id [] i ((slice_index s.words i + 1) % 2 ^ 64) (λ w. w ≡ sits y [])
+      → Next same n most s id [] i ((slice_index s.words i + 1) % 2 ^ 64) (λ w. w ≡ sits y [])
   counts s kept at y me sends takes events covered posted =
       let low : i < length s.words = subst (λ z. z < length s.words) (sym is) (subst (λ z. word_of n x.me < z) (sym kept.wide)
       (word_below n x.me member)) in
       let m : ℕ = (slice_index s.words i + 1) % 2 ^ 64 in
       let found : slice_index s.words i ≡ x.events =
-      ap (slice_index s.words) is ∙ (kept.counted x.me member ∙ ap (λ (z : Part B). z.events) (mine same n s kept id x y at me)) in
+      ap (slice_index s.words) is ∙ (kept.counted x.me member ∙ ap (λ (z : Part B). z.events) (mine same n most s kept id x y at me)) in
       let small : slice_index s.words i + 1 < 2 ^ 64 = omega (arith, found, room) in
       let more : m ≡ suc x.events = mod-eq_of_lt small ∙ omega (arith, found) in (
         y ∷ [],
         keeps,
         tt,
-        goes same n s kept id x y at me i m s.homes low
+        goes same n most s kept id x y at me i m s.homes low
             (record {
               high = refl;
               else_home = λ j d. refl;
@@ -61,7 +61,7 @@ module _ {B : Type 0} (same : B → B → Bool) (n : ℕ) (x : Part B) (id i : �
               takes = λ j d. takes j;
               box = λ c d mc md e. absurd (apart n c d x.me mc md (e ∙ is));
               covered = covered;
-              posted = posted (subst (Posted n x.me) (mine same n s kept id x y at me) (kept.posted x.me member));
+              posted = posted (subst (Posted n x.me) (mine same n most s kept id x y at me) (kept.posted x.me member));
               counted = at_both kept.part x.me y (λ k z. IsMember n k → slice_index (set s.words i m) (word_of n k) ≡ z.events)
                   (λ _. subst (λ j. slice_index (set s.words i m) j ≡ y.events) is (get_or-set_same s.words i m 0 low ∙ (more ∙ sym
                   events)))
@@ -72,20 +72,20 @@ module _ {B : Type 0} (same : B → B → Bool) (n : ℕ) (x : Part B) (id i : �
       )
 
   -- a packet that this node received is one that its sender's view has sent
-  fed : (s : State (Option (Packet B)) (List (Part B))) (kept : Kept same n s) → get_elem? s.views id ≡ some (x ∷ []) → (e : Event B)
+  fed : (s : State (Placed B) (List (Part B))) (kept : Kept same n most s) → get_elem? s.views id ≡ some (x ∷ []) → (e : Event B)
       → Received n x e → Fed n (λ k. (kept.part k).seen) e
   fed s kept at (Deliver p) r =
-      let b = box_ahead s.homes (box_of n r.0 x.me) _ _ _ _ _ (box_taken same n s kept id x x at refl r.0 (box_of n r.0 x.me) r.1
+      let b = box_ahead most s.homes (box_of n r.0 x.me) _ _ _ _ _ (box_taken same n most s kept id x x at refl r.0 (box_of n r.0 x.me) r.1
       member refl) in (
         r.0,
         r.1,
-        (kept.posted r.0 r.1 x.me p member (behind_has (through (box_of n r.0 x.me) (kept.part r.0).posted) (through (box_of n
+        (kept.posted r.0 r.1 x.me p member (behind_has most (through (box_of n r.0 x.me) (kept.part r.0).posted) (through (box_of n
             r.0 x.me) x.received) p b r.2)).0,
       )
   fed s kept at _ r = tt
 
   module _ (equal : IsEquality same) where
-    moved_covered : (s : State (Option (Packet B)) (List (Part B))) (kept : Kept same n s) → get_elem? s.views id ≡ some (x ∷ [])
+    moved_covered : (s : State (Placed B) (List (Part B))) (kept : Kept same n most s) → get_elem? s.views id ≡ some (x ∷ [])
         → (e : Event B)
         (q : Rows B) → x.seen.opened ≡ With q → owner e ≡ x.me → possible e x.seen.node ≡ true → Received n x e
         → Covered same n (with_at (λ k. (kept.part k).seen) x.me
@@ -94,21 +94,21 @@ module _ {B : Type 0} (same : B → B → Bool) (n : ℕ) (x : Part B) (id i : �
         let seen : ℕ → Viewed B = λ k. (kept.part k).seen in
         let P : Viewed B → Type 0 = λ z. z.opened ≡ With q → possible e z.node ≡ true
         → Covered same n (with_at seen x.me (moved (outcome_of same n e z.node).node (outcome_of same n e z.node).packets z)) in
-        subst P (ap (λ (z : Part B). z.seen) (mine same n s kept id x x at refl))
+        subst P (ap (λ (z : Part B). z.seen) (mine same n most s kept id x x at refl))
         (λ o c. covered_advance same equal n seen x.me e q kept.covered member o own c (fed s kept at e received)) opened may
 
-    renewed_covered : (s : State (Option (Packet B)) (List (Part B))) (kept : Kept same n s) → get_elem? s.views id ≡ some (x ∷ [])
+    renewed_covered : (s : State (Placed B) (List (Part B))) (kept : Kept same n most s) → get_elem? s.views id ≡ some (x ∷ [])
         → (r : Rows B) → MayRenew x.seen.opened x.seen.node r
         → Covered same n (with_at (λ k. (kept.part k).seen) x.me (reopened x.me r x.seen))
     renewed_covered s kept at r may =
         let seen : ℕ → Viewed B = λ k. (kept.part k).seen in
         let P : Viewed B → Type 0 = λ z. MayRenew z.opened z.node r → Covered same n (with_at seen x.me (reopened x.me r z)) in
-        subst P (ap (λ (z : Part B). z.seen) (mine same n s kept id x x at refl)) (λ m. covered_renewed same equal n seen x.me r
+        subst P (ap (λ (z : Part B). z.seen) (mine same n most s kept id x x at refl)) (λ m. covered_renewed same equal n seen x.me r
         kept.covered member m) may
 
     advances : (slots : ℕ) (o : Outcome B) (node : NodeState B) (packets : List (Packet B)) → Follows same n x o
         → node ≡ adopted x.me n o x.seen.node → packets ≡ o.packets
-        → Allows (Kept same n) slots id (sits x []) i (λ m. (m + 1) % 2 ^ 64) (Advances node packets (step slots i 1 0 none) (sits x []))
+        → Allows (Kept same n most) slots id (sits x []) i (λ m. (m + 1) % 2 ^ 64) (Advances node packets (step slots i 1 0 none) (sits x []))
     advances slots o node packets f node_is packets_are s kept len at fits =
         let t = outcome_of same n f.event x.seen.node in
         let a : t.node ≡ node = sym f.is.node ∙ (ap (λ k. adopted k n o x.seen.node) f.own ∙ sym node_is) in
@@ -122,7 +122,7 @@ module _ {B : Type 0} (same : B → B → Bool) (n : ℕ) (x : Part B) (id i : �
         (λ old k p mk h. let z = old k p mk h in (has_left packets z.0, z.1))
 
     renews : (slots : ℕ) (r : Rows B) → MayRenew x.seen.opened x.seen.node r
-        → Allows (Kept same n) slots id (sits x []) i (λ m. (m + 1) % 2 ^ 64) (Renews r (step slots i 1 0 none) (sits x []))
+        → Allows (Kept same n most) slots id (sits x []) i (λ m. (m + 1) % 2 ^ 64) (Renews r (step slots i 1 0 none) (sits x []))
     renews slots r may s kept len at fits =
         counts s kept at (renewing r x) refl (λ j. record { doing = refl; posted = refl }) (λ j. record {
           doing = refl;
@@ -131,18 +131,18 @@ module _ {B : Type 0} (same : B → B → Bool) (n : ℕ) (x : Part B) (id i : �
         (renewed_covered s kept at r may) (λ old. old)
 
 -- by what is known of a seat
-module _ {B : Type 0} (same : B → B → Bool) (equal : IsEquality same) (n slots id i : ℕ) where
+module _ {B : Type 0} (same : B → B → Bool) (equal : IsEquality same) (n most slots id i : ℕ) where
   pub advances_at : (me : Sat B) (o : Outcome B) (node : NodeState B) (packets : List (Packet B)) → me ≡ sits (only me.0) []
       → IsMember n (only me.0).me → i ≡ word_of n (only me.0).me → (only me.0).events < 2 ^ 62 → Follows same n (only me.0) o
       → node ≡ adopted (only me.0).me n o (only me.0).seen.node → packets ≡ o.packets
-      → Allows (Kept same n) slots id me i (λ m. (m + 1) % 2 ^ 64) (Advances node packets (step slots i 1 0 none) me)
+      → Allows (Kept same n most) slots id me i (λ m. (m + 1) % 2 ^ 64) (Advances node packets (step slots i 1 0 none) me)
   advances_at me o node packets e member is room f node_is packets_are =
-      subst (λ z. Allows (Kept same n) slots id z i (λ m. (m + 1) % 2 ^ 64) (Advances node packets (step slots i 1 0 none) z)) (sym e)
-      (advances same n (only me.0) id i member is room equal slots o node packets f node_is packets_are)
+      subst (λ z. Allows (Kept same n most) slots id z i (λ m. (m + 1) % 2 ^ 64) (Advances node packets (step slots i 1 0 none) z)) (sym e)
+      (advances same n most (only me.0) id i member is room equal slots o node packets f node_is packets_are)
 
   pub renews_at : (me : Sat B) (r : Rows B) → me ≡ sits (only me.0) [] → IsMember n (only me.0).me → i ≡ word_of n (only me.0).me
       → (only me.0).events < 2 ^ 62 → MayRenew (only me.0).seen.opened (only me.0).seen.node r
-      → Allows (Kept same n) slots id me i (λ m. (m + 1) % 2 ^ 64) (Renews r (step slots i 1 0 none) me)
+      → Allows (Kept same n most) slots id me i (λ m. (m + 1) % 2 ^ 64) (Renews r (step slots i 1 0 none) me)
   renews_at me r e member is room may =
-      subst (λ z. Allows (Kept same n) slots id z i (λ m. (m + 1) % 2 ^ 64) (Renews r (step slots i 1 0 none) z)) (sym e)
-      (renews same n (only me.0) id i member is room equal slots r may)
+      subst (λ z. Allows (Kept same n most) slots id z i (λ m. (m + 1) % 2 ^ 64) (Renews r (step slots i 1 0 none) z)) (sym e)
+      (renews same n most (only me.0) id i member is room equal slots r may)

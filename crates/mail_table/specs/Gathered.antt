@@ -20,26 +20,26 @@ use Rattle.mail_table.specs.Covered.{Agreed, Covered, Matches}
 use Rattle.mail_table.specs.Views.{box_of, length_in, through}
 
 -- of n nodes all parts are known: the views are covered, what was posted was sent, and what was received is what was posted, in order, each
--- once, but for at most one packet that is in the box
-pub record Gathered {B : Type 0} (same : B → B → Bool) (n : ℕ) (parts : List (Part B)) : Type 0 where
+-- once, but for the packets that are in the box, of which it holds so many at most
+pub record Gathered {B : Type 0} (same : B → B → Bool) (n most : ℕ) (parts : List (Part B)) : Type 0 where
   pub part : ℕ → Part B
   pub mine : (x : Part B) → Has parts x → part x.me ≡ x
   pub all : (k : ℕ) → IsMember n k → Has parts (part k)
   pub named : (k : ℕ) → IsMember n k → (part k).me ≡ k
   pub covered : Covered same n (λ k. (part k).seen)
   pub posted : (k : ℕ) → IsMember n k → Posted n k (part k)
-  pub boxes : (a b : ℕ) → IsMember n a → IsMember n b → IsAhead (through (box_of n a b) (part a).posted) (through (box_of n a b) (part
+  pub boxes : (a b : ℕ) → IsMember n a → IsMember n b → IsAhead most (through (box_of n a b) (part a).posted) (through (box_of n a b) (part
       b).received)
 
 -- the rows with which the nodes were opened, and some for those that nobody opened, agree
 abbrev pub Opening : {B : Type 0} → (B → B → Bool) → ℕ → List (Part B) → (ℕ → Rows B) → Type 0
 Opening {B} same n parts rows = ((x : Part B) → Has parts x → Matches x.seen.opened (rows x.me)) × Agreed same n rows
 
--- what one node posted to another is what this one received of it, in order, each once, followed by at most one packet
-abbrev pub PostsArrive : {B : Type 0} → ℕ → List (Part B) → Type 0
-PostsArrive {B} n parts =
+-- what one node posted to another is what this one received of it, in order, each once, followed by what the box holds: so many packets at most
+abbrev pub PostsArrive : {B : Type 0} → ℕ → ℕ → List (Part B) → Type 0
+PostsArrive {B} n most parts =
     (x y : Part B) → Has parts x → Has parts y → IsMember n x.me → IsMember n y.me
-    → IsAhead (through (box_of n x.me y.me) x.posted) (through (box_of n x.me y.me) y.received)
+    → IsAhead most (through (box_of n x.me y.me) x.posted) (through (box_of n x.me y.me) y.received)
 
 -- the whole log of a node that is up: as many entries as its floor says, after which the nodes stand as they do by its snapshot, and then what it
 -- has applied

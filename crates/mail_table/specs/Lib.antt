@@ -5,3 +5,4 @@ pub mod Offices
 pub mod Seats
 pub mod Gathered
 pub mod Laws
+pub mod Examples

@@ -7,14 +7,16 @@ use Rattle.logbook.specs.Pages.{Book}
 use Rattle.paxos_packets.specs.Members.{IsMember}
 use Rattle.mail_table.specs.declared.part.Doing.TheVariants.{Idle}
 use Rattle.mail_table.specs.declared.part.Part.{Part}
+use Rattle.mail_table.specs.declared.size.Size.{Size}
 use Rattle.mail_table.specs.Boxes.{Sat, sits}
 use Rattle.mail_table.specs.Views.{length_in, only, place, unopened}
 
--- the office in which it was founded, the table's number there, and the number of its nodes
+-- the office in which it was founded, the table's number there, the number of its nodes, and how many packets a box holds at most
 pub record Mailed : Type 0 where
   pub office : Book
   pub table : ℕ
   pub members : ℕ
+  pub most : ℕ
 
 -- the office and the number of its table, the number of the table's nodes, and what the seat knows of its node
 pub record Seated (B : Type 0) : Type 0 where
@@ -56,13 +58,16 @@ with_length lengths s = slice_set lengths (place s.part.me) (length_in s.part.se
 abbrev pub lengths_of : {B : Type 0} → List (Seated B) → List ℕ
 lengths_of seats = fold with_length (replicate 7 0) seats
 
--- a table of n nodes has eight words and slots for each ordered pair, and eight words for each node: the first of each is used
-pub record IsSized (n of : ℕ) (t : TableId) : Type 0 where
-  pub key : of ≡ n
+-- a table of n nodes, whose boxes hold so many packets at most, has eight words and slots for each ordered pair, and eight words for each node:
+-- the first of each is used
+pub record IsSized (n most : ℕ) (of : Size) (t : TableId) : Type 0 where
+  pub count : of.nodes ≡ n
+  pub bound : of.most ≡ most
+  pub some : 1 ≤ most
   pub words : t.words ≡ 8 * (n * n + n)
   pub slots : t.slots ≡ 8 * (n * n)
   pub least : 3 ≤ n
-  pub most : n ≤ 7
+  pub few : n ≤ 7
 
 -- the seat knows of one node alone, which is at no box, and holds no slot; its word has counted this many events, its log is this long
 pub record IsAlone {B : Type 0} (n me_is count length_is : ℕ) (t : TableId) (me : Sat B) : Type 0 where

@@ -1,5 +1,5 @@
 -- What a seat knows of one node, and what each step adds to it (docs/ARCHITECTURE.md, "Threads").
-use Rattle.std.specs.Prelude.{ℕ, zero, suc, ◌+◌, ◌*◌, ◌==◌, Bool, true, false, List, [], ◌∷◌, ◌++◌, if◌then◌else◌}
+use Rattle.std.specs.Prelude.{ℕ, zero, suc, ◌+◌, ◌*◌, ◌==◌, Bool, true, false, List, [], ◌∷◌, ◌++◌, map, if◌then◌else◌}
 use Rattle.paxos_packets.specs.declared.packet.Packet.{Packet}
 use Rattle.paxos_packets.specs.declared.rows.Rows.{Rows}
 use Rattle.paxos_planning.specs.Node.{NodeState, told_length}
@@ -66,19 +66,23 @@ abbrev pub only : {B : Type 0} → List (Part B) → Part B
 only [] = unopened 0
 only (x ∷ xs) = x
 
--- what the steps of post, fetch, advance and renew add
+-- packets, each as a parcel that went through a box
+abbrev pub parcels : {B : Type 0} → ℕ → List (Packet B) → List (Parcel B)
+parcels at ps = map (λ p. record { at = at; packet = p }) ps
+
+-- what the steps of posting and fetching packets, of an event and of a renewal add
 
 abbrev pub claiming : {B : Type 0} → ℕ → Part B → Part B
 claiming at x = record x { doing = Sending at; tried = x.tried ++ record { at = at; won = true } ∷ [] }
 
-abbrev pub delivering : {B : Type 0} → ℕ → Packet B → Part B → Part B
-delivering at p x = record x { doing = Idle; posted = x.posted ++ record { at = at; packet = p } ∷ [] }
+abbrev pub delivering : {B : Type 0} → ℕ → List (Packet B) → Part B → Part B
+delivering at ps x = record x { doing = Idle; posted = x.posted ++ parcels at ps }
 
-abbrev pub fetching : {B : Type 0} → ℕ → Packet B → Part B → Part B
-fetching at p x =
+abbrev pub fetching : {B : Type 0} → ℕ → List (Packet B) → Part B → Part B
+fetching at ps x =
     record x {
       doing = Taking at;
-      received = x.received ++ record { at = at; packet = p } ∷ [];
+      received = x.received ++ parcels at ps;
       tried = x.tried ++ record { at = at; won = true } ∷ [];
     }
 
@@ -103,10 +107,18 @@ reopened me r seen = record { opened = opened_with r seen.opened; node = started
 abbrev pub renewing : {B : Type 0} → Rows B → Part B → Part B
 renewing r x = record x { events = suc x.events; seen = reopened x.me r x.seen }
 
--- a packet was posted, or received: both steps of it
+-- packets were posted together, or received together, in this order: both steps of it
+
+abbrev pub posting_all : {B : Type 0} → ℕ → List (Packet B) → Part B → Part B
+posting_all at ps x = delivering at ps (claiming at x)
+
+abbrev pub receiving_all : {B : Type 0} → ℕ → List (Packet B) → Part B → Part B
+receiving_all at ps x = clearing (fetching at ps x)
+
+-- the same of one packet
 
 abbrev pub posting : {B : Type 0} → ℕ → Packet B → Part B → Part B
-posting at p x = delivering at p (claiming at x)
+posting at p x = posting_all at (p ∷ []) x
 
 abbrev pub receiving : {B : Type 0} → ℕ → Packet B → Part B → Part B
-receiving at p x = clearing (fetching at p x)
+receiving at p x = receiving_all at (p ∷ []) x

@@ -10,12 +10,13 @@ ghost use Rattle.mail_table.specs.Offices.{name_of};
 ghost use Rattle.mail_table.specs.Seats.{IsSized, all_sit, is_whole, lengths_of, parts_of};
 ghost use Rattle.mail_table.specs.declared.part.Part.{Part};
 
+use crate::batch::Batch;
 use crate::mail::Mail;
 use crate::office::{Mark, same_table};
 use crate::plays::{Boxes, Collect, Token};
 use crate::seat::NodeSeat;
 use atomic_table::Closed;
-use paxos_packets::{Body, Packet};
+use paxos_packets::Body;
 use std::alloc::Global;
 use std::marker::Model;
 
@@ -27,8 +28,8 @@ impl<B: Body> Mail<B> {
         ensures exactly { is_ok result ≡ is_whole self seats.items }
         ensures back { IfErr result (λ r. (r.0 ≡ self) × (r.1.items ≡ seats.items)) }
         ensures lengths { IfOk result (λ lengths. lengths ≡ lengths_of seats.items) }
-        ensures gathered { OnOk result (Gathered B.same self.members (parts_of seats.items)) }
-        ensures posts { OnOk result (PostsArrive self.members (parts_of seats.items)) }
+        ensures gathered { OnOk result (Gathered B.same self.members self.most (parts_of seats.items)) }
+        ensures posts { OnOk result (PostsArrive self.members self.most (parts_of seats.items)) }
         ensures logs { OnOk result (LogsAgree B.same self.members (parts_of seats.items)) }
         ensures learners { OnOk result (LearnersAgree B.same self.members (parts_of seats.items)) }
     {
@@ -55,7 +56,7 @@ impl<B: Body> Mail<B> {
     fn collect(self, seats: Vec<NodeSeat<B>>)
         requires office { All (λ s. s.office ≡ self.office) seats.items }
         requires whole { is_whole self seats.items ≡ true }
-        ensures { Gathered B.same self.members (parts_of seats.items) }
+        ensures { Gathered B.same self.members self.most (parts_of seats.items) }
     {
         let Mail { table, mark, .. } = self;
         let gatherer = take_in(&table, &mark, seats);
@@ -120,7 +121,7 @@ fn take_in<B: Body>(table: &Boxes<B>, mark: &Mark, mut seats: Vec<NodeSeat<B>>) 
     requires some { 0 < vec_len seats }
     requires owned { All (λ s. (s.office ≡ mark.now.seen.book) × (s.table ≡ mark.now.number)) seats.items }
     requires marked { slice_get mark.now.seen.log mark.now.number ≡ Some (name_of table.now.shared.table_id) }
-    requires sized { IsSized table.now.shared.key table.now.shared.key table.now.shared.table_id }
+    requires sized { IsSized table.now.shared.key.nodes table.now.shared.key.most table.now.shared.key table.now.shared.table_id }
     ensures same { result.table_id ≡ table.now.shared.table_id }
     ensures knows { (x : Part B) → Has (parts_of seats.items) x → Has result.me.0 x }
 {
@@ -135,8 +136,8 @@ fn take_in<B: Body>(table: &Boxes<B>, mark: &Mark, mut seats: Vec<NodeSeat<B>>) 
     gatherer
 }
 
-// Drops the packets that are left in boxes, and frees the memory.
-fn free<B: Body>(mut closed: Closed<Option<Packet<B>>, Global>)
+// Drops the batches that are left in boxes, and frees the memory.
+fn free<B: Body>(mut closed: Closed<Option<Batch<B>>, Global>)
     requires { IsFull closed.slots }
 {
     let mut next = 0;

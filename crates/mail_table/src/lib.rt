@@ -2,6 +2,7 @@
 //! nodes, and what all threads know together (docs/ARCHITECTURE.md, "Threads").
 #![tactic(auto)]
 
+mod batch;
 mod fault;
 mod founding;
 mod gathering;
@@ -12,10 +13,12 @@ mod office;
 mod part;
 mod plays;
 mod seat;
+mod size;
 mod steps;
 
+pub use batch::Batch;
 pub use fault::{Memory, Worn};
-pub use founding::found;
+pub use founding::{MOST_IN_BATCH, found, found_for_batches};
 pub use mail::Mail;
 pub use office::Office;
 pub use part::{Doing, Parcel, Part, Try, View};

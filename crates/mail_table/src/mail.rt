@@ -1,30 +1,37 @@
 //! The table, and what a node does at it.
 ghost use Rattle.std.specs.Bool.{OnTrue};
-ghost use Rattle.std.specs.Prelude.{◌≡◌, ◌==◌, ◌<◌, ◌^◌, ℕ, nat_lt, OnOk, OnErr, IfSome, MatchResult, MatchOption, is_ok};
+ghost use Rattle.std.specs.Prelude.{◌≡◌, ◌==◌, ◌<◌, ◌≤◌, ◌^◌, ℕ, nat_lt, OnOk, OnErr, IfSome, MatchBool, MatchResult, MatchOption, is_ok, [], ◌∷◌, length};
 ghost use Rattle.cluster_world.specs.Has.{Has};
 ghost use Rattle.paxos_packets.specs.Members.{IsMember};
+ghost use Rattle.paxos_packets.specs.declared.packet.Packet as packets;
 ghost use Rattle.paxos_packets.specs.Snapshot.{floor_in};
 ghost use Rattle.paxos_node.specs.Adopting.{adopted};
-ghost use Rattle.mail_table.specs.Boxes.{Follows};
+ghost use Rattle.mail_table.specs.Boxes.{AreTo, Follows};
 ghost use Rattle.mail_table.specs.Covered.{MayRenew};
 ghost use Rattle.mail_table.specs.Seats.{Owns, knows};
-ghost use Rattle.mail_table.specs.Views.{box_of, posting, receiving, lost, moving, renewing};
+ghost use Rattle.mail_table.specs.Views.{box_of, posting, posting_all, receiving, receiving_all, lost, moving, renewing};
 
+use crate::batch::Batch;
 use crate::fault::Worn;
 use crate::office::{Mark, same_table};
 use crate::plays::Boxes;
 use crate::seat::NodeSeat;
-use crate::steps::{advance_as, box_at, fetch_from, post_in, renew_as, word_at};
+use crate::steps::{advance_as, box_at, fetch_from, is_empty, post_in, renew_as, word_at};
 use paxos_node::Outcome;
 use paxos_packets::{Body, Packet, Rows};
+use std::alloc::Global;
 use std::marker::{Brand, Model};
 
 /// A table through which the nodes of a cluster pass packets, each node on its own thread: for each ordered pair of nodes a box that
-/// holds one packet, and for each node a word that counts its events. It is shared by reference; nothing is locked, and no call waits.
+/// holds one packet, or a batch of up to 64 in a table for batches, and for each node a word that counts its events. It is shared by
+/// reference; nothing is locked, and no call waits.
 #[derive(Drop)]
 pub struct Mail<B: Body> {
     pub(crate) table: Boxes<B>,
     pub(crate) nodes: u8,
+    // How many packets a box holds at most.
+    pub(crate) most: usize,
+    pub(crate) alloc: Global,
     pub(crate) mark: Mark,
 }
 
@@ -35,9 +42,9 @@ impl<B: Body> Model for Mail<B> {
 
     ghost Value = { Mailed };
 
-    ghost view = { λ m. record { office = m.mark.seen.book; table = m.mark.number; members = m.nodes } };
+    ghost view = { λ m. record { office = m.mark.seen.book; table = m.mark.number; members = m.nodes; most = m.most } };
 
-    ghost invariant = { λ m. IsSized m.nodes m.table.shared.key m.table.shared.table_id
+    ghost invariant = { λ m. IsSized m.nodes m.most m.table.shared.key m.table.shared.table_id
         × (slice_get m.mark.seen.log m.mark.number ≡ Some (name_of m.table.shared.table_id)) };
 }
 
@@ -67,19 +74,86 @@ impl<B: Body> Mail<B> {
             (λ p. (p ≡ packet) × (seat.new ≡ knows (lost (box_of self.now.members seat.old.part.me to) seat.old.part) seat.old)) }
         ensures still_owned { Owns self.now seat.new }
     {
-        same_table(&self.mark, &self.table, &seat.mark, &seat.seat); // for the proof
-        let at = box_at(self.nodes, seat.node, to);
-        post_in(&self.table, &mut seat.seat, at, packet)
+        let one = self.batch_of(packet);
+        let Err(batch) = self.post_all(seat, to, one) else {
+            return Ok(());
+        };
+        Err(batch.into_one())
     }
 
-    /// Takes the packet out of the box from another node, in one try. Returns `None` if the box is not full. Costs a load of the box's
-    /// word; if that finds the box full, two atomic steps and one move of the packet.
+    // Returns a batch of one packet, which each table's boxes can hold.
+    fn batch_of(&self, packet: Packet<B>) -> Batch<B>
+        ensures one { result ≡ packet ∷ [] }
+        ensures short { length result ≤ self.now.most }
+    {
+        Batch::of(self.alloc, packet)
+    }
+
+    /// Puts the packets, which the seat's node sent, into the box to another node, all of them in one try and in this order. Returns them if
+    /// the box is not empty. Costs as much as `post`, however many there are.
+    pub fn post_all(&self, seat: &mut NodeSeat<B>, to: u8, batch: Batch<B>) -> Result<(), Batch<B>>
+        requires owned { Owns self.now seat.old }
+        requires member { IsMember self.now.members to }
+        requires sent { (p : packets.Packet B) → Has batch p → Has seat.old.part.seen.sent p }
+        requires addressed { AreTo to batch }
+        requires short { length batch ≤ self.now.most }
+        ensures posted { MatchResult result
+            (λ _. seat.new ≡ knows (posting_all (box_of self.now.members seat.old.part.me to) batch seat.old.part) seat.old)
+            (λ b. (b ≡ batch) × (seat.new ≡ knows (lost (box_of self.now.members seat.old.part.me to) seat.old.part) seat.old)) }
+        ensures still_owned { Owns self.now seat.new }
+    {
+        same_table(&self.mark, &self.table, &seat.mark, &seat.seat); // for the proof
+        let at = box_at(self.nodes, seat.node, to);
+        post_in(&self.table, &mut seat.seat, at, batch)
+    }
+
+    /// Returns whether the box to another node is empty, by a load of its word. If it is not, that was a try to post, which is lost.
+    pub fn is_free(&self, seat: &mut NodeSeat<B>, to: u8) -> bool
+        requires owned { Owns self.now seat.old }
+        requires member { IsMember self.now.members to }
+        ensures found { MatchBool result (seat.new ≡ seat.old)
+            (seat.new ≡ knows (lost (box_of self.now.members seat.old.part.me to) seat.old.part) seat.old) }
+        ensures still_owned { Owns self.now seat.new }
+    {
+        same_table(&self.mark, &self.table, &seat.mark, &seat.seat); // for the proof
+        let at = box_at(self.nodes, seat.node, to);
+        is_empty(&self.table, &mut seat.seat, at)
+    }
+
+    /// Returns how many packets a box holds at most: 1, or 64 in a table for batches.
+    pub fn most(&self) -> usize
+        ensures value { result ≡ self.now.most }
+        ensures some { 1 ≤ result }
+    {
+        self.most
+    }
+
+    /// Takes the packet out of the box from another node, in one try, at a table whose boxes hold one. Returns `None` if the box is not full.
+    /// Costs a load of the box's word; if that finds the box full, two atomic steps and one move of the packet.
     pub fn fetch(&self, seat: &mut NodeSeat<B>, from: u8) -> Option<Packet<B>>
         requires owned { Owns self.now seat.old }
         requires member { IsMember self.now.members from }
+        requires single { self.now.most ≡ 1 }
         ensures fetched { MatchOption result (seat.new ≡ knows (lost (box_of self.now.members from seat.old.part.me) seat.old.part) seat.old)
             (λ p. seat.new ≡ knows (receiving (box_of self.now.members from seat.old.part.me) p seat.old.part) seat.old) }
         ensures addressed { IfSome result (λ p. p.addressee ≡ seat.old.part.me) }
+        ensures still_owned { Owns self.now seat.new }
+    {
+        let Some(batch) = self.fetch_all(seat, from) else {
+            return None;
+        };
+        Some(batch.into_one())
+    }
+
+    /// Takes the packets out of the box from another node, all of them in one try, in the order in which they were put in. Returns `None` if
+    /// the box is not full. Costs as much as `fetch`, however many there are.
+    pub fn fetch_all(&self, seat: &mut NodeSeat<B>, from: u8) -> Option<Batch<B>>
+        requires owned { Owns self.now seat.old }
+        requires member { IsMember self.now.members from }
+        ensures fetched { MatchOption result (seat.new ≡ knows (lost (box_of self.now.members from seat.old.part.me) seat.old.part) seat.old)
+            (λ b. seat.new ≡ knows (receiving_all (box_of self.now.members from seat.old.part.me) b seat.old.part) seat.old) }
+        ensures addressed { IfSome result (λ b. AreTo seat.old.part.me b) }
+        ensures short { IfSome result (λ b. length b ≤ self.now.most) }
         ensures still_owned { Owns self.now seat.new }
     {
         same_table(&self.mark, &self.table, &seat.mark, &seat.seat); // for the proof

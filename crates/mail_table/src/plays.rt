@@ -1,54 +1,69 @@
 //! The rule of the table, and what each step on it means.
-ghost use Rattle.mail_table.specs.Boxes.{Kept, rising, behind_first, first_alone, Claims, Delivers, Fetches, Clears, Advances, Renews, SeeksEmpty, SeeksFull};
+ghost use Rattle.mail_table.specs.Boxes.{KeptIn, rising, behind_first, first_alone, Claims, Delivers, Fetches, Clears, Advances, Renews, SeeksEmpty, SeeksFull};
 
+use crate::batch::Batch;
 use crate::part::View;
+use crate::size::Size;
 use atomic_table::{Join, Play, Seat, Split, Table, TableRule};
-use paxos_packets::{Body, Packet};
+use paxos_packets::Body;
 use std::alloc::Global;
 use std::marker::{Brand, PhantomData};
 
-/// The rule of the table: each box is in one of four states, its packets come out in the order in which they went in, each once, and some
-/// world that events lead to has just the nodes that all seats know.
+/// The rule of the table: each box is in one of four states and holds a batch of at most so many packets, packets come out in the order in
+/// which they went in, each once, and some world that events lead to has just the nodes that all seats know.
 pub struct InOrder;
 
-impl<B: Body> TableRule<Option<Packet<B>>, View<B>, u64> for InOrder {
-    ghost holds = { λ n s. Kept B.same n s };
+impl<B: Body> TableRule<Option<Batch<B>>, View<B>, Size> for InOrder {
+    ghost holds = { KeptIn B.same };
 
-    ghost first = { λ n. rising 0 n };
+    ghost first = { λ size. rising 0 size.nodes };
 }
 
 // A table of boxes, and a seat at one.
-pub(crate) type Boxes<B> = Table<Option<Packet<B>>, View<B>, u64, InOrder, Global>;
+pub(crate) type Boxes<B> = Table<Option<Batch<B>>, View<B>, Size, InOrder, Global>;
 
-pub(crate) type Token<B> = Seat<Option<Packet<B>>, View<B>>;
+pub(crate) type Token<B> = Seat<Option<Batch<B>>, View<B>>;
 
 // The eight kinds of step that the protocol has, and no others: claim, deliver, fetch, clear, advance, renew, deal, collect.
 
 // A box is claimed by its sender, or the try is lost.
 pub(crate) struct Claim;
 
-impl<B> Play<Option<Packet<B>>, View<B>> for Claim {
+impl<B> Play<Option<Batch<B>>, View<B>> for Claim {
     ghost then = { Claims };
 }
 
-// The packet goes into the claimed box.
+// A batch goes into the claimed box.
 pub(crate) struct Deliver;
 
-impl<B> Play<Option<Packet<B>>, View<B>> for Deliver {
+impl<B> Play<Option<Batch<B>>, View<B>> for Deliver {
     ghost then = { Delivers };
 }
 
-// A packet is taken out of a full box by its addressee, or the try is lost.
-pub(crate) struct Fetch;
+// How many packets a box holds at most. Each call of `empty_out` picks it.
+pub(crate) trait Holding {
+    ghost use Rattle.std.specs.Prelude.{ℕ};
 
-impl<B> Play<Option<Packet<B>>, View<B>> for Fetch {
-    ghost then = { Fetches };
+    ghost most: { ℕ };
+}
+
+impl Holding for Brand {
+    ghost most = { 0 };
+}
+
+// The batch is taken out of a full box by its addressee, or the try is lost.
+pub(crate) struct Fetch<J> {
+    of: PhantomData<J>,
+}
+
+impl<B, J: Holding> Play<Option<Batch<B>>, View<B>> for Fetch<J> {
+    ghost then = { Fetches J.most };
 }
 
 // The box is empty again.
 pub(crate) struct Clear;
 
-impl<B> Play<Option<Packet<B>>, View<B>> for Clear {
+impl<B> Play<Option<Batch<B>>, View<B>> for Clear {
     ghost then = { Clears };
 }
 
@@ -77,7 +92,7 @@ pub(crate) struct Advance<J> {
     of: PhantomData<J>,
 }
 
-impl<B, J: Telling<B>> Play<Option<Packet<B>>, View<B>> for Advance<J> {
+impl<B, J: Telling<B>> Play<Option<Batch<B>>, View<B>> for Advance<J> {
     ghost then = { Advances J.node J.packets };
 }
 
@@ -99,7 +114,7 @@ pub(crate) struct Renew<J> {
     of: PhantomData<J>,
 }
 
-impl<B, J: Beginning<B>> Play<Option<Packet<B>>, View<B>> for Renew<J> {
+impl<B, J: Beginning<B>> Play<Option<Batch<B>>, View<B>> for Renew<J> {
     ghost then = { Renews J.rows };
 }
 
@@ -129,13 +144,13 @@ impl<B> Join<View<B>> for Collect {
 // The box is found to be empty, or its sender's try is lost.
 pub(crate) struct SeekEmpty;
 
-impl<B> Play<Option<Packet<B>>, View<B>> for SeekEmpty {
+impl<B> Play<Option<Batch<B>>, View<B>> for SeekEmpty {
     ghost then = { SeeksEmpty };
 }
 
 // The box is found to be full, or its addressee's try is lost.
 pub(crate) struct SeekFull;
 
-impl<B> Play<Option<Packet<B>>, View<B>> for SeekFull {
+impl<B> Play<Option<Batch<B>>, View<B>> for SeekFull {
     ghost then = { SeeksFull };
 }

@@ -1,30 +1,31 @@
 //! The steps of post, fetch, advance and renew, over a table and a seat at it. None waits.
-ghost use Rattle.std.specs.Prelude.{◌≡◌, ◌<◌, ◌≤◌, ◌^◌, [], MatchBool, MatchResult, MatchOption};
+ghost use Rattle.std.specs.Prelude.{◌≡◌, ◌<◌, ◌≤◌, ◌^◌, [], MatchBool, MatchResult, MatchOption, IfSome, length};
 ghost use Rattle.paxos_packets.specs.Members.{IsMember};
-ghost use Rattle.mail_table.specs.Boxes.{sits, word_of, MayPost, MayFetch, Follows};
+ghost use Rattle.mail_table.specs.Boxes.{sits, word_of, AreTo, MaySeek, MayPost, MayFetch, Follows};
 ghost use Rattle.mail_table.specs.Covered.{MayRenew};
 ghost use Rattle.mail_table.specs.Seats.{IsSized};
-ghost use Rattle.mail_table.specs.Views.{only, box_of, posting, receiving, lost, moving, renewing};
+ghost use Rattle.mail_table.specs.Views.{only, box_of, posting_all, receiving_all, lost, moving, renewing};
 ghost use Rattle.paxos_node.specs.Adopting.{adopted};
 
+use crate::batch::Batch;
 use crate::plays::{
-    Advance, Beginning, Boxes, Claim, Clear, Deliver, Fetch, Renew, SeekEmpty, SeekFull, Telling,
-    Token,
+    Advance, Beginning, Boxes, Claim, Clear, Deliver, Fetch, Holding, Renew, SeekEmpty, SeekFull,
+    Telling, Token,
 };
 use paxos_node::Outcome;
-use paxos_packets::{Body, Packet, Rows};
+use paxos_packets::{Body, Rows};
 use std::marker::Brand;
 
-// The word of a box that holds no packet.
+// The word of a box that holds no batch.
 const EMPTY: u64 = 0;
 
-// The word of a box into which its sender is putting a packet.
+// The word of a box into which its sender is putting a batch.
 const CLAIMED: u64 = 1;
 
-// The word of a box that holds a packet.
+// The word of a box that holds a batch.
 const FULL: u64 = 2;
 
-// The word of a box out of which its addressee is taking the packet.
+// The word of a box out of which its addressee is taking the batch.
 const EMPTYING: u64 = 3;
 
 // How far apart the words in use are: none shares 64 octets with another, so that a step at one takes no other from its processor.
@@ -53,118 +54,124 @@ pub(crate) fn word_at(nodes: u8, node: u8) -> usize
 }
 
 // Returns whether the box is empty, by a load. If it is not, its word stays with the thread that works at the box, and the try is lost.
-fn is_empty<B: Body>(table: &Boxes<B>, seat: &mut Token<B>, at: usize, packet: &Packet<B>) -> bool
+pub(crate) fn is_empty<B: Body>(table: &Boxes<B>, seat: &mut Token<B>, at: usize) -> bool
     requires table { seat.old.table_id ≡ table.now.shared.table_id }
-    requires sized { IsSized table.now.shared.key table.now.shared.key table.now.shared.table_id }
+    requires sized { IsSized table.now.shared.key.nodes table.now.shared.key.most table.now.shared.key table.now.shared.table_id }
     requires alone { seat.old.me ≡ sits (only seat.old.me.0) [] }
-    requires may { MayPost table.now.shared.key (only seat.old.me.0) at packet.now }
+    requires may { MaySeek table.now.shared.key.nodes (only seat.old.me.0) at }
     ensures found { MatchBool result (seat.new ≡ seat.old) (seat.new.me ≡ sits (lost at (only seat.old.me.0)) []) }
     ensures same { seat.new.table_id ≡ seat.old.table_id }
 {
-    let _ = packet; // for the proof
     table.shared.load::<SeekEmpty>(seat, at) == EMPTY
 }
 
 // Returns whether the box is full, by a load. If it is not, its word stays with the thread that works at the box, and the try is lost.
 fn is_full<B: Body>(table: &Boxes<B>, seat: &mut Token<B>, at: usize) -> bool
     requires table { seat.old.table_id ≡ table.now.shared.table_id }
-    requires sized { IsSized table.now.shared.key table.now.shared.key table.now.shared.table_id }
+    requires sized { IsSized table.now.shared.key.nodes table.now.shared.key.most table.now.shared.key table.now.shared.table_id }
     requires alone { seat.old.me ≡ sits (only seat.old.me.0) [] }
-    requires may { MayFetch table.now.shared.key (only seat.old.me.0) at }
+    requires may { MayFetch table.now.shared.key.nodes (only seat.old.me.0) at }
     ensures found { MatchBool result (seat.new ≡ seat.old) (seat.new.me ≡ sits (lost at (only seat.old.me.0)) []) }
     ensures same { seat.new.table_id ≡ seat.old.table_id }
 {
     table.shared.load::<SeekFull>(seat, at) == FULL
 }
 
-// Puts the packet into the box, in one try; returns it if the box is not empty.
+// Puts the batch into the box, in one try; returns it if the box is not empty.
 pub(crate) fn post_in<B: Body>(
     table: &Boxes<B>,
     seat: &mut Token<B>,
     at: usize,
-    packet: Packet<B>,
-) -> Result<(), Packet<B>>
+    batch: Batch<B>,
+) -> Result<(), Batch<B>>
     requires table { seat.old.table_id ≡ table.now.shared.table_id }
-    requires sized { IsSized table.now.shared.key table.now.shared.key table.now.shared.table_id }
+    requires sized { IsSized table.now.shared.key.nodes table.now.shared.key.most table.now.shared.key table.now.shared.table_id }
     requires alone { seat.old.me ≡ sits (only seat.old.me.0) [] }
-    requires may { MayPost table.now.shared.key (only seat.old.me.0) at packet }
-    ensures posted { MatchResult result (λ _. seat.new.me ≡ sits (posting at packet (only seat.old.me.0)) [])
-        (λ p. (p ≡ packet) × (seat.new.me ≡ sits (lost at (only seat.old.me.0)) [])) }
+    requires may { MayPost table.now.shared.key.nodes table.now.shared.key.most (only seat.old.me.0) at batch }
+    ensures posted { MatchResult result (λ _. seat.new.me ≡ sits (posting_all at batch (only seat.old.me.0)) [])
+        (λ b. (b ≡ batch) × (seat.new.me ≡ sits (lost at (only seat.old.me.0)) [])) }
     ensures same { seat.new.table_id ≡ seat.old.table_id }
 {
-    if is_empty(table, seat, at, &packet) {
-        return claim_in(table, seat, at, packet);
+    if is_empty(table, seat, at) {
+        return claim_in(table, seat, at, batch);
     }
-    Err(packet)
+    Err(batch)
 }
 
-// Claims the box, if it is still empty, and puts the packet into it.
+// Claims the box, if it is still empty, and puts the batch into it.
 fn claim_in<B: Body>(
     table: &Boxes<B>,
     seat: &mut Token<B>,
     at: usize,
-    packet: Packet<B>,
-) -> Result<(), Packet<B>>
+    batch: Batch<B>,
+) -> Result<(), Batch<B>>
     requires table { seat.old.table_id ≡ table.now.shared.table_id }
-    requires sized { IsSized table.now.shared.key table.now.shared.key table.now.shared.table_id }
+    requires sized { IsSized table.now.shared.key.nodes table.now.shared.key.most table.now.shared.key table.now.shared.table_id }
     requires alone { seat.old.me ≡ sits (only seat.old.me.0) [] }
-    requires may { MayPost table.now.shared.key (only seat.old.me.0) at packet }
-    ensures posted { MatchResult result (λ _. seat.new.me ≡ sits (posting at packet (only seat.old.me.0)) [])
-        (λ p. (p ≡ packet) × (seat.new.me ≡ sits (lost at (only seat.old.me.0)) [])) }
+    requires may { MayPost table.now.shared.key.nodes table.now.shared.key.most (only seat.old.me.0) at batch }
+    ensures posted { MatchResult result (λ _. seat.new.me ≡ sits (posting_all at batch (only seat.old.me.0)) [])
+        (λ b. (b ≡ batch) × (seat.new.me ≡ sits (lost at (only seat.old.me.0)) [])) }
     ensures same { seat.new.table_id ≡ seat.old.table_id }
 {
     let found = table
         .shared
         .compare_exchange::<Claim>(seat, at, EMPTY, CLAIMED);
     if found != EMPTY {
-        return Err(packet);
+        return Err(batch);
     }
-    let None = table.shared.exchange(seat, at, Some(packet)) else {
+    let None = table.shared.exchange(seat, at, Some(batch)) else {
         unreachable!()
     };
     table.shared.store::<Deliver>(seat, at, FULL);
     Ok(())
 }
 
-// Takes the packet out of the box, in one try.
+// Takes the batch out of the box, in one try.
 pub(crate) fn fetch_from<B: Body>(
     table: &Boxes<B>,
     seat: &mut Token<B>,
     at: usize,
-) -> Option<Packet<B>>
+) -> Option<Batch<B>>
     requires table { seat.old.table_id ≡ table.now.shared.table_id }
-    requires sized { IsSized table.now.shared.key table.now.shared.key table.now.shared.table_id }
+    requires sized { IsSized table.now.shared.key.nodes table.now.shared.key.most table.now.shared.key table.now.shared.table_id }
     requires alone { seat.old.me ≡ sits (only seat.old.me.0) [] }
-    requires may { MayFetch table.now.shared.key (only seat.old.me.0) at }
+    requires may { MayFetch table.now.shared.key.nodes (only seat.old.me.0) at }
     ensures fetched { MatchOption result (seat.new.me ≡ sits (lost at (only seat.old.me.0)) [])
-        (λ p. (p.addressee ≡ (only seat.old.me.0).me) × (seat.new.me ≡ sits (receiving at p (only seat.old.me.0)) [])) }
+        (λ b. AreTo (only seat.old.me.0).me b × (seat.new.me ≡ sits (receiving_all at b (only seat.old.me.0)) [])) }
+    ensures short { IfSome result (λ b. length b ≤ table.now.shared.key.most) }
     ensures same { seat.new.table_id ≡ seat.old.table_id }
 {
     if is_full(table, seat, at) {
-        return empty_out(table, seat, at);
+        return empty_out::<B, Brand>(table, seat, at);
     }
     None
 }
 
-// Takes the packet out of the box, if it is still full.
-fn empty_out<B: Body>(table: &Boxes<B>, seat: &mut Token<B>, at: usize) -> Option<Packet<B>>
+// Takes the batch out of the box, if it is still full.
+fn empty_out<B: Body, J: Holding>(
+    table: &Boxes<B>,
+    seat: &mut Token<B>,
+    at: usize,
+) -> Option<Batch<B>>
     requires table { seat.old.table_id ≡ table.now.shared.table_id }
-    requires sized { IsSized table.now.shared.key table.now.shared.key table.now.shared.table_id }
+    requires sized { IsSized table.now.shared.key.nodes table.now.shared.key.most table.now.shared.key table.now.shared.table_id }
     requires alone { seat.old.me ≡ sits (only seat.old.me.0) [] }
-    requires may { MayFetch table.now.shared.key (only seat.old.me.0) at }
+    requires may { MayFetch table.now.shared.key.nodes (only seat.old.me.0) at }
+    requires most { J.most ≡ table.now.shared.key.most }
     ensures fetched { MatchOption result (seat.new.me ≡ sits (lost at (only seat.old.me.0)) [])
-        (λ p. (p.addressee ≡ (only seat.old.me.0).me) × (seat.new.me ≡ sits (receiving at p (only seat.old.me.0)) [])) }
+        (λ b. AreTo (only seat.old.me.0).me b × (seat.new.me ≡ sits (receiving_all at b (only seat.old.me.0)) [])) }
+    ensures short { IfSome result (λ b. length b ≤ J.most) }
     ensures same { seat.new.table_id ≡ seat.old.table_id }
 {
     let found = table
         .shared
-        .compare_exchange::<Fetch>(seat, at, FULL, EMPTYING);
+        .compare_exchange::<Fetch<J>>(seat, at, FULL, EMPTYING);
     if found != FULL {
         return None;
     }
-    let packet = table.shared.exchange(seat, at, None);
+    let batch = table.shared.exchange(seat, at, None);
     table.shared.store::<Clear>(seat, at, EMPTY);
-    packet
+    batch
 }
 
 // Takes the step whose outcome this is.
@@ -175,13 +182,13 @@ pub(crate) fn advance_as<B: Body, J: Telling<B>>(
     outcome: &Outcome<B>,
 )
     requires table { seat.old.table_id ≡ table.now.shared.table_id }
-    requires sized { IsSized table.now.shared.key table.now.shared.key table.now.shared.table_id }
+    requires sized { IsSized table.now.shared.key.nodes table.now.shared.key.most table.now.shared.key table.now.shared.table_id }
     requires alone { seat.old.me ≡ sits (only seat.old.me.0) [] }
-    requires member { IsMember table.now.shared.key (only seat.old.me.0).me }
-    requires word { at ≡ word_of table.now.shared.key (only seat.old.me.0).me }
+    requires member { IsMember table.now.shared.key.nodes (only seat.old.me.0).me }
+    requires word { at ≡ word_of table.now.shared.key.nodes (only seat.old.me.0).me }
     requires room { (only seat.old.me.0).events < 2 ^ 62 }
-    requires follows { Follows B.same table.now.shared.key (only seat.old.me.0) outcome.now }
-    requires node { J.node ≡ adopted (only seat.old.me.0).me table.now.shared.key outcome.now (only seat.old.me.0).seen.node }
+    requires follows { Follows B.same table.now.shared.key.nodes (only seat.old.me.0) outcome.now }
+    requires node { J.node ≡ adopted (only seat.old.me.0).me table.now.shared.key.nodes outcome.now (only seat.old.me.0).seen.node }
     requires packets { J.packets ≡ outcome.now.packets }
     ensures moved { seat.new.me ≡ sits (moving J.node J.packets (only seat.old.me.0)) [] }
     ensures same { seat.new.table_id ≡ seat.old.table_id }
@@ -198,10 +205,10 @@ pub(crate) fn renew_as<B: Body, J: Beginning<B>>(
     rows: &Rows<B>,
 )
     requires table { seat.old.table_id ≡ table.now.shared.table_id }
-    requires sized { IsSized table.now.shared.key table.now.shared.key table.now.shared.table_id }
+    requires sized { IsSized table.now.shared.key.nodes table.now.shared.key.most table.now.shared.key table.now.shared.table_id }
     requires alone { seat.old.me ≡ sits (only seat.old.me.0) [] }
-    requires member { IsMember table.now.shared.key (only seat.old.me.0).me }
-    requires word { at ≡ word_of table.now.shared.key (only seat.old.me.0).me }
+    requires member { IsMember table.now.shared.key.nodes (only seat.old.me.0).me }
+    requires word { at ≡ word_of table.now.shared.key.nodes (only seat.old.me.0).me }
     requires room { (only seat.old.me.0).events < 2 ^ 62 }
     requires may { MayRenew (only seat.old.me.0).seen.opened (only seat.old.me.0).seen.node rows.now }
     requires rows { J.rows ≡ rows.now }

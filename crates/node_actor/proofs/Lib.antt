@@ -1,3 +1,12 @@
+pub mod EventLists
+mod RoundSteps
+mod RoundEnds
+mod RoundMakes
+mod Making
+mod Looking
+mod Treating
+mod OwnEvents
+mod RoundSince
 mod Renewing
 mod Booting
 mod Restarting
@@ -16,3 +25,5 @@ mod Rounds
 mod OneTurn
 mod AllRound
 mod Opening
+mod Batching
+mod WholeRound

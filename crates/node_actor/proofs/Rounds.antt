@@ -123,7 +123,7 @@ module _ {B : Type 0} where
       × Has (through (box_of n j x.me) (receiving (box_of n k x.me) got.1 x).received) got.1) (sym h.0) (
         record { me = refl; seen = refl; events = refl; posted = refl },
         more_packets (box_of n k x.me) got.1 x,
-        subst (λ l. Has l got.1) (sym (through_more (box_of n k x.me) x.received got.1))
+        subst (λ l. Has l got.1) (sym (through_more (box_of n k x.me) x.received (got.1 ∷ [])))
             (last_has (through (box_of n k x.me) x.received) got.1),
       ))
     where

@@ -58,7 +58,7 @@ module _ {B M K : Type 0} where
         members = y.members ∙ x.members;
       }
 
-  only_none : (a b : Parted B M K) → b ≡ a → OnlyWaiting a b
+  pub only_none : (a b : Parted B M K) → b ≡ a → OnlyWaiting a b
   only_none a b e =
       record {
         node = ap (λ (x : Parted B M K). x.node) e;
@@ -71,7 +71,7 @@ module _ {B M K : Type 0} where
       }
 
   -- the boxes to two members are two
-  boxes_apart : (same : B → B → Bool) (p : Parted B M K) (s : Seated B) → IsSeated same (acting p s) → IsMember p.node.members p.node.me
+  pub boxes_apart : (same : B → B → Bool) (p : Parted B M K) (s : Seated B) → IsSeated same (acting p s) → IsMember p.node.members p.node.me
       → (j k : ℕ)
       → IsMember p.node.members j → IsMember p.node.members k → (j ≡ k → ⊥) → post_box s j ≡ post_box s k → ⊥
   boxes_apart same p s seated member j k mj mk d e =
@@ -100,12 +100,12 @@ module _ {B M K : Type 0} where
         → PostsOne k true (acting p s) (acting q t) s t
     posts_won t is_peer is = subst (λ z. PostsOne k true (acting p s) (acting q z) s z) (sym is) (record {
       beside = record { only = only; table = refl; me = refl; seen = refl; events = refl; received = refl };
-      there = λ peer. post_won packet (waiting k q.waiting) refl taken.first refl (through_more (post_box s k) s.part.posted packet)
+      there = λ peer. post_won packet (waiting k q.waiting) refl taken.first refl (through_more (post_box s k) s.part.posted (packet ∷ []))
           (tries_more (post_box s k) true s.part.tried);
       peer = λ won. is_peer;
       others = λ j peer d. record {
         waits = taken.others j d;
-        posted = through_else (post_box s j) (post_box s k) s.part.posted packet (boxes_apart same p s seated member j k peer.0 to d);
+        posted = through_else (post_box s j) (post_box s k) s.part.posted (packet ∷ []) (boxes_apart same p s seated member j k peer.0 to d);
         tries = tries_else (post_box s j) (post_box s k) true s.part.tried (boxes_apart same p s seated member j k peer.0 to d);
       };
     })
@@ -172,7 +172,7 @@ module _ {B M K : Type 0} (same : B → B → Bool) where
       }
 
   -- what waits is among what waited
-  by_peer : (k j : ℕ) (sent : List (Packet B)) (p q : Parted B M K) → All (Contains sent) (waiting k q.waiting)
+  pub by_peer : (k j : ℕ) (sent : List (Packet B)) (p q : Parted B M K) → All (Contains sent) (waiting k q.waiting)
       → ((i : ℕ) → (i ≡ k → ⊥) → waiting i q.waiting ≡ waiting i p.waiting) → All (Contains sent) (waiting j p.waiting)
       → (j ≡ k) ⊎ (j ≡ k → ⊥) → All (Contains sent) (waiting j q.waiting)
   by_peer k j sent p q mine others was (inl e) = subst (λ i. All (Contains sent) (waiting i q.waiting)) (sym e) mine
@@ -240,7 +240,7 @@ module _ {B M K : Type 0} where
         others = λ k alien. none k;
       }
 
-  beside_on : (a b c : Parted B M K) (v w x : Seated B) → Beside (acting a v) (acting b w) v w → Beside (acting b w) (acting c x) w x
+  pub beside_on : (a b c : Parted B M K) (v w x : Seated B) → Beside (acting a v) (acting b w) v w → Beside (acting b w) (acting c x) w x
       → Beside (acting a v) (acting c x) v x
   beside_on a b c v w x f g =
       record {
@@ -252,7 +252,7 @@ module _ {B M K : Type 0} where
         received = g.received ∙ f.received;
       }
 
-  stays_both : (k : ℕ) (a b c : Parted B M K) (v w x : Seated B) → StaysTo k (acting a v) (acting b w) v w
+  pub stays_both : (k : ℕ) (a b c : Parted B M K) (v w x : Seated B) → StaysTo k (acting a v) (acting b w) v w
       → StaysTo k (acting b w) (acting c x) w x
       → StaysTo k (acting a v) (acting c x) v x
   stays_both k a b c v w x f g = record { waits = g.waits ∙ f.waits; posted = g.posted ∙ f.posted; tries = g.tries ∙ f.tries }
@@ -273,11 +273,11 @@ module _ {B M K : Type 0} where
   tried_now k won a b c v w x f (post_lost p rest n h i j l) =
       post_lost p rest n (sym f.waits ∙ h) i (j ∙ f.posted) (l ∙ ap (λ ts. ts ++ false ∷ []) f.tries)
 
-  peer_on : (a b : Parted B M K) (v w : Seated B) → Beside (acting a v) (acting b w) v w → (k : ℕ) → IsPeer a.node.me a.node.members k
+  pub peer_on : (a b : Parted B M K) (v w : Seated B) → Beside (acting a v) (acting b w) v w → (k : ℕ) → IsPeer a.node.me a.node.members k
       → IsPeer b.node.me b.node.members k
   peer_on a b v w f k peer = subst (λ n. IsPeer n.me n.members k) (sym f.only.node) peer
 
-  peer_back : (a b : Parted B M K) (v w : Seated B) → Beside (acting a v) (acting b w) v w → (k : ℕ) → IsPeer b.node.me b.node.members k
+  pub peer_back : (a b : Parted B M K) (v w : Seated B) → Beside (acting a v) (acting b w) v w → (k : ℕ) → IsPeer b.node.me b.node.members k
       → IsPeer a.node.me a.node.members k
   peer_back a b v w f k peer = subst (λ n. IsPeer n.me n.members k) f.only.node peer
 

@@ -1,7 +1,7 @@
 -- What is made of an outcome, stated for the view that the event began with.
 use Rattle.std.proofs.Common.{◌≡◌, ◌⊎◌, inl, inr, ℕ, ◌≤◌, ◌-◌, Bool, not, true}
 use Rattle.std.proofs.Common.{false, cond, eqb, Option, Some, None, Result, Ok, Err, List, [], ◌++◌}
-use Rattle.std.proofs.Common.{length, drop, arith, sym, ap, subst, ◌∙◌, refl}
+use Rattle.std.proofs.Common.{length, drop, arith, sym, ap, subst, ◌∙◌, refl, ⊎_elim}
 use Rattle.std.specs.Prelude.{◌==◌, ◌^◌, ◌||◌, nat_lt, filter, is_some}
 use Rattle.std.proofs.lemmas.Bool.{cond-true, cond-false, ne_eqb, and_parts, and_from, eqb-true, eq-eqb, false≢true}
 use Rattle.std.proofs.lemmas.List.{append-nil}
@@ -43,9 +43,10 @@ use Rattle.node_actor.specs.declared.turning.LastTurn.{LastTurn}
 use Rattle.node_actor.specs.Posts.{advanced}
 use Rattle.node_actor.specs.Steps.{may_advance, fault_without_plan, TakesOver, StopsBefore, StopsBehind, CarriesOut}
 use Rattle.node_actor.specs.Steps.{CarriesOn, makes_none, makes_stop, carries}
-use Rattle.node_actor.specs.Turns.{Reaches}
+use Rattle.node_actor.specs.MidRound.{OneOn, SeatGoes}
+use Rattle.node_actor.specs.Turns.{Reaches, ReachesWith}
 use Rattle.node_actor.specs.Views.{View, seen, is_for, posted_to, received_from, StandsFor, moved_by, received_by, Queues}
-use Rattle.node_actor.specs.Calls.{take_event, turn_event, is_own, is_worn, Goes, Stops, IsTaken, IsAgreed, Acts, Cuts}
+use Rattle.node_actor.specs.Calls.{take_event, turn_event, is_own, is_worn, GoesWith, Stops, IsTaken, IsAgreed, Acts, ActsWith, Cuts}
 use Rattle.paxos_node.specs.Snapshots.{may_cut}
 use Rattle.node_actor.proofs.Seating.{peer_of, seated_stands}
 use Rattle.node_actor.proofs.Since.{since, acts_since, cuts_since}
@@ -126,9 +127,18 @@ module _ {B : Type 0} (same : B → B → Bool) (me members : ℕ) (e : Event B)
   pub agrees_is : Planned same members e x o → x ≡ y → turn.disagrees ≡ false
   agrees_is p q = ap (λ z. (outcome_of same members e z).disagrees) (sym q) ∙ p.agrees
 
+-- a seat that took no step, since there was no memory or its word counts no more
+pub unmoved : {B : Type 0} (Y : Type 0) (same : B → B → Bool) (members : ℕ) (e : Event B) (s t : Seated B) → t ≡ s
+    → SeatGoes {Y = Y} same members e s t (Err (fault_without_plan s))
+unmoved Y same members e s t is = by_word (may_advance s)
+  where
+    by_word : (b : Bool) → SeatGoes {Y = Y} same members e s t (Err (cond {A = ActorFault Y} b Memory Worn))
+    by_word true = inl is
+    by_word false = is
+
 -- what a view that an event began with shares with its seat
 
-module _ {B : Type 0} (ended : Bool) (e : Option (Event B)) (v s : Seated B) (reach : Reaches ended e v s) where
+module _ {B : Type 0} {got : List (Packet B)} (ended : Bool) (e : Option (Event B)) (v s : Seated B) (reach : ReachesWith got ended e v s) where
   pub posted_same : (k : ℕ) → posted_to k s ≡ posted_to k v
   posted_same k =
       let members : s.members ≡ v.members = ap (λ (x : Seated B). x.members) reach.table in
@@ -149,8 +159,8 @@ module _ {B M K : Type 0} where
 
 module _ {B S Y M K : Type 0} (same : B → B → Bool) (steps : Steps B S Y) (content : M → S) (loaded : List ℕ → Option S)
     (holds : K → Rows B → Type 0) (finds : K → Rows B → Type 0) (failures : K → ℕ) (is_failed : K → Bool) where
-  module _ (e : Event B) (o : Outcome B) (old new : Parted B M K) (v s t : Seated B) (sound : IsSound same holds is_failed old)
-      (seated : IsSeated same (acting old s)) (behind : IsSeated same (acting new t)) (reach : Reaches old.spoiled (Some e) v s)
+  module _ {got : List (Packet B)} (e : Event B) (o : Outcome B) (old new : Parted B M K) (v s t : Seated B) (sound : IsSound same holds is_failed old)
+      (seated : IsSeated same (acting old s)) (behind : IsSeated same (acting new t)) (reach : ReachesWith got old.spoiled (Some e) v s)
       (mine : plans old.node.me e old.node.state ≡ true) (planned : Planned same old.node.members e old.node.state o) where
     is_node : old.node.state ≡ (seen v).node
     is_node = sym seated.node ∙ ap (λ x. x.node) reach.seen
@@ -167,6 +177,31 @@ module _ {B S Y M K : Type 0} (same : B → B → Bool) (steps : Steps B S Y) (c
         let node : adopted s.part.me s.members o s.part.seen.node ≡ (outcome_of same old.node.members e (seen v).node).node =
         (λ i. adopted (seated.me i) (seated.members i) o (seated.node i)) ∙ next_is in
         ap seen is ∙ (λ i. moved (node i) (packets i) (reach.seen i))
+
+    -- the seat took the step, or none
+    went : t ≡ advanced o s → OneOn same old.node.members e s t
+    went is = (ap (λ (z : Seated B). z.part.events) is, moved_is is ∙ ap (moved_by same old.node.members (Some e)) (sym reach.seen))
+
+    seat_out : (base : LogState B M) (result : Result (Vec Y Global) (ActorFault Y))
+        → CarriesOut steps content holds finds failures base o (acting old s) (acting new t) result
+        → SeatGoes same old.node.members e s t result
+    seat_out base (Ok says) h = went h.3.seat
+    seat_out base (Err (LostHere says)) h = went h.3.seat
+    seat_out base (Err (Keeper fault)) h = h.2.seat
+    seat_out base (Err Worn) h = h.2.seat
+    seat_out base (Err Memory) h = ⊎_elim (λ b. inl b.seat) (λ b. inr (went b.seat)) h.2
+    seat_out base (Err Failed) h = absurd h
+    seat_out base (Err Rounds) h = absurd h
+    seat_out base (Err Full) h = absurd h
+    seat_out base (Err Disagree) h = absurd h
+
+    pub seat_on : (result : Result (Vec Y Global) (ActorFault Y))
+        → CarriesOn steps content holds finds failures loaded o (acting old s) (acting new t) result
+        → SeatGoes same old.node.members e s t result
+    seat_on (Err Disagree) (makes_none none spoiled stop) = stop.seat
+    seat_on (Err f) (makes_stop fault is spoiled stop) =
+        subst (λ x. SeatGoes {Y = Y} same old.node.members e s t (Err x)) (sym is) (unmoved Y same old.node.members e s t stop.seat)
+    seat_on r (carries made result is h) = seat_out (base_log made o.change.snapshot old.log) r h
 
     -- the snapshot of the outcome is the event's
     commits_is : o.change.snapshot ≡ (outcome_of same old.node.members e (seen v).node).change.snapshot
@@ -186,7 +221,7 @@ module _ {B S Y M K : Type 0} (same : B → B → Bool) (steps : Steps B S Y) (c
       reads_is = ap (λ c. is_no_log loaded (taken_over (is_some (packet_in e)) c)) (sym commits_is) ∙ reads
 
       goes_on : (says : List Y) → TakesOver steps content holds finds failures base o (acting old s) (acting new t) says
-          → Goes same steps content loaded holds finds failures (Some e) (acting old v) (acting new t) v says
+          → GoesWith same steps content loaded holds finds failures got (Some e) (acting old v) (acting new t) v says
       goes_on says h =
           record {
             next = t;
@@ -270,7 +305,7 @@ module _ {B S Y M K : Type 0} (same : B → B → Bool) (steps : Steps B S Y) (c
           → old.spoiled ≡ false → ((k : ℕ) → IsPeer old.node.me old.node.members k → length (waiting k old.waiting) ≤ most_waiting)
           → (result : Result (Vec Y Global) (ActorFault Y)) → CarriesOut steps content holds finds failures base o (acting old s) (acting new t)
           result
-          → Acts same steps content loaded holds finds failures (Some e) (acting old v) (acting new t) v result
+          → ActsWith same steps content loaded holds finds failures got (Some e) (acting old v) (acting new t) v result
       acts_of base joins reads fresh short (Ok says) h = (fresh, h.2, is_agreed h.0, not_false up_then (sym downs ∙ h.1), goes_on base joins reads says.items h.3)
       acts_of base joins reads fresh short (Err (LostHere says)) h = (fresh, h.2, is_agreed h.0, not_true up_then (sym downs ∙ h.1), goes_on base joins reads says.items h.3)
       acts_of base joins reads fresh short (Err (Keeper fault)) h = (
@@ -328,7 +363,7 @@ module _ {B S Y M K : Type 0} (same : B → B → Bool) (steps : Steps B S Y) (c
           → old.spoiled ≡ false → ((k : ℕ) → IsPeer old.node.me old.node.members k → length (waiting k old.waiting) ≤ most_waiting)
           → (result : Result (Vec Y Global) (ActorFault Y))
           → CarriesOn steps content holds finds failures loaded o (acting old s) (acting new t) result
-          → Acts same steps content loaded holds finds failures (Some e) (acting old v) (acting new t) v result
+          → ActsWith same steps content loaded holds finds failures got (Some e) (acting old v) (acting new t) v result
       acts_on serving from fresh short (Err Disagree) (makes_none none spoiled stop) = (
         fresh,
         spoiled,
@@ -339,11 +374,11 @@ module _ {B S Y M K : Type 0} (same : B → B → Bool) (steps : Steps B S Y) (c
         stopped_here stop,
       )
       acts_on serving from fresh short (Err f) (makes_stop fault is spoiled stop) =
-          subst (λ x. Acts same steps content loaded holds finds failures (Some e) (acting old v) (acting new t) v (Err x)) (sym is)
+          subst (λ x. ActsWith same steps content loaded holds finds failures got (Some e) (acting old v) (acting new t) v (Err x)) (sym is)
           (by_word (may_advance s) refl)
         where
           by_word : (b : Bool) → may_advance s ≡ b
-              → Acts same steps content loaded holds finds failures (Some e) (acting old v) (acting new t) v
+              → ActsWith same steps content loaded holds finds failures got (Some e) (acting old v) (acting new t) v
               (Err (cond {A = ActorFault Y} b Memory Worn))
           by_word true may = (fresh, spoiled, is_agreed may, stops old.log (inl stop))
           by_word false may = (fresh, spoiled, is_taken, agrees, worn_by false may, stopped_here stop)
@@ -354,7 +389,7 @@ module _ {B S Y M K : Type 0} (same : B → B → Bool) (steps : Steps B S Y) (c
 
   -- refusals
 
-  module _ (e : Event B) (p : Parted B M K) (v s : Seated B) (seated : IsSeated same (acting p s)) (reach : Reaches p.spoiled (Some e) v s)
+  module _ {got : List (Packet B)} (e : Event B) (p : Parted B M K) (v s : Seated B) (seated : IsSeated same (acting p s)) (reach : ReachesWith got p.spoiled (Some e) v s)
     where
       stays_node : p.node.state ≡ (seen v).node
       stays_node = sym seated.node ∙ ap (λ x. x.node) reach.seen
@@ -383,7 +418,7 @@ module _ {B S Y M K : Type 0} (same : B → B → Bool) (steps : Steps B S Y) (c
       pub disagree_acts : p.spoiled ≡ false → IsServing holds is_failed p → IsSeated same (acting (record p { spoiled = true }) s)
           → (is_round_refused e p.node.state ≡ false) × (is_full_refused same e p.node.state ≡ false)
           × ((outcome_of same p.node.members e p.node.state).disagrees ≡ true)
-          → Acts same steps content loaded holds finds failures (Some e) (acting p v) (acting (record p { spoiled = true }) s) v (Err Disagree)
+          → ActsWith same steps content loaded holds finds failures got (Some e) (acting p v) (acting (record p { spoiled = true }) s) v (Err Disagree)
       disagree_acts fresh serving behind h = (
         fresh,
         refl,
@@ -395,12 +430,12 @@ module _ {B S Y M K : Type 0} (same : B → B → Bool) (steps : Steps B S Y) (c
       pub memory_acts : p.spoiled ≡ false → IsServing holds is_failed p → IsSeated same (acting (record p { spoiled = true }) s)
           → (is_round_refused e p.node.state ≡ false) × (is_full_refused same e p.node.state ≡ false)
           → (outcome_of same p.node.members e p.node.state).disagrees ≡ false
-          → Acts same steps content loaded holds finds failures (Some e) (acting p v) (acting (record p { spoiled = true }) s) v
+          → ActsWith same steps content loaded holds finds failures got (Some e) (acting p v) (acting (record p { spoiled = true }) s) v
           (Err (fault_without_plan s))
       memory_acts fresh serving behind h agrees = by_word (may_advance s) refl
         where
           by_word : (b : Bool) → may_advance s ≡ b
-              → Acts same steps content loaded holds finds failures (Some e) (acting p v) (acting (record p { spoiled = true }) s) v
+              → ActsWith same steps content loaded holds finds failures got (Some e) (acting p v) (acting (record p { spoiled = true }) s) v
               (Err (cond {A = ActorFault Y} b Memory Worn))
           by_word true may = (fresh, refl, (taken_here h, agrees_here false agrees, worn_here true may), stops_here serving (Some e) behind)
           by_word false may = (
@@ -421,16 +456,16 @@ module _ {B S Y M K : Type 0} (same : B → B → Bool) (steps : Steps B S Y) (c
       full_alone _ h = refl
 
       pub rounds_act : p.spoiled ≡ false → is_round_refused e p.node.state ≡ true
-          → Acts same steps content loaded holds finds failures (Some e) (acting p v) (acting p s) v (Err Rounds)
+          → ActsWith same steps content loaded holds finds failures got (Some e) (acting p v) (acting p s) v (Err Rounds)
       rounds_act fresh h = (fresh, ap (is_round_refused e) (sym stays_node) ∙ h, ap (acting p) (reach.alone e refl (round_alone e h)))
 
       pub full_act : p.spoiled ≡ false → is_full_refused same e p.node.state ≡ true
-          → Acts same steps content loaded holds finds failures (Some e) (acting p v) (acting p s) v (Err Full)
+          → ActsWith same steps content loaded holds finds failures got (Some e) (acting p v) (acting p s) v (Err Full)
       full_act fresh h = (fresh, ap (is_full_refused same e) (sym stays_node) ∙ h, ap (acting p) (reach.alone e refl (full_alone e h)))
 
   -- a fault has ended the actor before
-  pub failed_acts : (e : Option (Event B)) (p : Parted B M K) (v s : Seated B) → p.spoiled ≡ true → Reaches p.spoiled e v s
-      → Acts same steps content loaded holds finds failures e (acting p v) (acting p s) v (Err Failed)
+  pub failed_acts : {got : List (Packet B)} (e : Option (Event B)) (p : Parted B M K) (v s : Seated B) → p.spoiled ≡ true → ReachesWith got p.spoiled e v s
+      → ActsWith same steps content loaded holds finds failures got e (acting p v) (acting p s) v (Err Failed)
   failed_acts e p v s spoiled reach = (spoiled, ap (acting p) (reach.ended spoiled))
 
   -- no event
@@ -538,6 +573,20 @@ module _ {B M K : Type 0} (same : B → B → Bool) (holds : K → Rows B → Ty
 module _ {B M K : Type 0} where
   pub addressed : (a : Parted B M K) (p : Packet B) → is_for a.waiting.me a.waiting.members p ≡ true → p.addressee ≡ a.waiting.me
   addressed a p h = eqb-true p.addressee a.waiting.me (and_parts (eqb p.addressee a.waiting.me) _ h).0
+
+-- the seat itself is such a view of an event with which no packet comes
+pub reaches_here : {B : Type 0} (ended : Bool) (e : Option (Event B)) (s : Seated B) → ReachesWith [] ended e s s
+reaches_here ended e s =
+    record {
+      table = refl;
+      me = refl;
+      seen = refl;
+      events = refl;
+      posted = refl;
+      received = λ k. sym (append-nil (received_from k s));
+      ended = λ h. refl;
+      alone = λ x is none. refl;
+    }
 
 -- the seat is as the event found it
 pub reaches_self : {B : Type 0} (ended : Bool) (e : Option (Event B)) (s : Seated B) → received_by e ≡ [] → Reaches ended e s s

@@ -1,5 +1,5 @@
 -- A node with its store, its machine and its seat at the table, as callers see it (docs/CONSENSUS.md, "A node with its store").
-use Rattle.std.specs.Prelude.{◌≡◌, ℕ, Bool, Option, Some, None, All, Contains}
+use Rattle.std.specs.Prelude.{◌≡◌, ℕ, Bool, Option, Some, None, [], All, Contains}
 use Rattle.paxos_packets.specs.Members.{no_nodes}
 use Rattle.paxos_packets.specs.declared.rows.Rows.{Rows}
 use Rattle.replica_machine.specs.Log.{LogState}
@@ -29,7 +29,7 @@ pub record Acting (B M K : Type 0) : Type 0 where
 
 -- what is shown before any turn: no packet was fetched, and none was posted
 abbrev pub no_turn : LastTurn
-no_turn = record { from = None; heard = None; posted = no_nodes }
+no_turn = record { from = None; heard = None; posted = no_nodes; came = [] }
 
 -- an actor of these parts at this seat, which shows this of its last turn; the same before any turn; and the parts of an actor
 

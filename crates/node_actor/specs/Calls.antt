@@ -78,12 +78,12 @@ pub record Rests {B Y M K : Type 0} (old new : Acting B M K) (result : Result (V
 module _ {B S Y M K : Type 0} (same : B → B → Bool) (steps : Steps B S Y) (content : M → S) (loaded : List ℕ → Option S)
     (holds : K → Rows B → Type 0) (finds : K → Rows B → Type 0) (failures : K → ℕ) where
   -- the view goes on by the event, its node's rows are held, its packets wait, a log is made of the snapshot that it takes over, if it takes one,
-  -- and the sayings are what the event hands out, of whichever log that snapshot is
-  pub record Goes (e : Option (Event B)) (old new : Acting B M K) (v : View B) (said : List Y) : Type 0 where
+  -- and the sayings are what the event hands out, of whichever log that snapshot is. These packets are those that the view received with the event
+  pub record GoesWith (got : List (Packet B)) (e : Option (Event B)) (old new : Acting B M K) (v : View B) (said : List Y) : Type 0 where
     pub next : View B
     pub stands : StandsFor new next
     pub moved : seen next ≡ moved_by same old.node.members e (seen v)
-    pub received : (k : ℕ) → received_from k next ≡ received_from k v ++ filter (λ p. p.sender == k) (received_by e)
+    pub received : (k : ℕ) → received_from k next ≡ received_from k v ++ filter (λ p. p.sender == k) got
     pub queues : (k : ℕ) → IsPeer old.node.me old.node.members k → Queues k (sent_by same old.node.members e (seen v).node) old new v next
     pub held : holds new.keeper (seen next).node.rows
     pub loads : takes_no_log same old.node.members loaded e (seen v).node ≡ false
@@ -93,6 +93,10 @@ module _ {B S Y M K : Type 0} (same : B → B → Bool) (steps : Steps B S Y) (c
     pub follows : (first : S) (under : List (Entry B)) (logs : Logs B) → IsLogOf steps content first under old.log
         → TakesLog same old.node.members loaded (machine_from steps first) logs e (seen v).node
         → IsLogOf steps content first (under_after same old.node.members logs under e (seen v).node) new.log
+
+  -- the same of an event with its own packet
+  abbrev pub Goes : Option (Event B) → Acting B M K → Acting B M K → View B → List Y → Type 0
+  Goes e old new v said = GoesWith (received_by e) e old new v said
 
   -- the view and what is held went on together, or neither did
   pub record Stops (e : Option (Event B)) (old new : Acting B M K) (v : View B) : Type 0 where
@@ -121,25 +125,28 @@ module _ {B S Y M K : Type 0} (same : B → B → Bool) (steps : Steps B S Y) (c
   IsAgreed e old v = IsTaken e old v × (disagrees same old.node.members e (seen v).node ≡ false) × (is_worn e v ≡ false)
 
   -- what a call returns that makes this event, and what it makes of the actor
-  abbrev pub Acts : Option (Event B) → Acting B M K → Acting B M K → View B → Result (Vec Y Global) (ActorFault Y) → Type 0
-  Acts e old new v (Ok says) =
+  abbrev pub ActsWith : List (Packet B) → Option (Event B) → Acting B M K → Acting B M K → View B → Result (Vec Y Global) (ActorFault Y) → Type 0
+  ActsWith got e old new v (Ok says) =
       (old.spoiled ≡ false) × (new.spoiled ≡ false) × IsAgreed e old v
-      × ((moved_by same old.node.members e (seen v)).node.up ≡ true) × Goes e old new v says.items
-  Acts e old new v (Err Failed) = (old.spoiled ≡ true) × (new ≡ old)
-  Acts e old new v (Err Rounds) = (old.spoiled ≡ false) × (has_no_round e (seen v).node ≡ true) × (new ≡ old)
-  Acts e old new v (Err Full) = (old.spoiled ≡ false) × (has_no_room same e (seen v).node ≡ true) × (new ≡ old)
-  Acts e old new v (Err Disagree) =
+      × ((moved_by same old.node.members e (seen v)).node.up ≡ true) × GoesWith got e old new v says.items
+  ActsWith got e old new v (Err Failed) = (old.spoiled ≡ true) × (new ≡ old)
+  ActsWith got e old new v (Err Rounds) = (old.spoiled ≡ false) × (has_no_round e (seen v).node ≡ true) × (new ≡ old)
+  ActsWith got e old new v (Err Full) = (old.spoiled ≡ false) × (has_no_room same e (seen v).node ≡ true) × (new ≡ old)
+  ActsWith got e old new v (Err Disagree) =
       (old.spoiled ≡ false) × (new.spoiled ≡ true) × IsTaken e old v
       × ((disagrees same old.node.members e (seen v).node || takes_no_log same old.node.members loaded e (seen v).node) ≡ true)
       × Stops None old new v
-  Acts e old new v (Err (Keeper fault)) = (old.spoiled ≡ false) × (new.spoiled ≡ true) × IsAgreed e old v × Fails e old new v fault
-  Acts e old new v (Err (LostHere says)) =
+  ActsWith got e old new v (Err (Keeper fault)) = (old.spoiled ≡ false) × (new.spoiled ≡ true) × IsAgreed e old v × Fails e old new v fault
+  ActsWith got e old new v (Err (LostHere says)) =
       (old.spoiled ≡ false) × (new.spoiled ≡ true) × IsAgreed e old v
-      × ((moved_by same old.node.members e (seen v)).node.up ≡ false) × Goes e old new v says.items
-  Acts e old new v (Err Worn) =
+      × ((moved_by same old.node.members e (seen v)).node.up ≡ false) × GoesWith got e old new v says.items
+  ActsWith got e old new v (Err Worn) =
       (old.spoiled ≡ false) × (new.spoiled ≡ true) × IsTaken e old v × (disagrees same old.node.members e (seen v).node ≡ false)
       × (is_worn e v ≡ true) × Stops None old new v
-  Acts e old new v (Err Memory) = (old.spoiled ≡ false) × (new.spoiled ≡ true) × IsAgreed e old v × Stops e old new v
+  ActsWith got e old new v (Err Memory) = (old.spoiled ≡ false) × (new.spoiled ≡ true) × IsAgreed e old v × Stops e old new v
+
+  abbrev pub Acts : Option (Event B) → Acting B M K → Acting B M K → View B → Result (Vec Y Global) (ActorFault Y) → Type 0
+  Acts e old new v result = ActsWith (received_by e) e old new v result
 
   -- what a call returns that cuts to this snapshot: the event is made if it is possible; a fault is told as one of the event, even if it is not
   abbrev pub Cuts : Option taken.Snapshot → Acting B M K → Acting B M K → View B → Result (Vec Y Global) (ActorFault Y) → Type 0

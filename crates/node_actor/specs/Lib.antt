@@ -8,6 +8,10 @@ pub mod Steps
 pub mod Views
 pub mod Snapshots
 pub mod Calls
+pub mod EventLists
 pub mod Turns
+pub mod Rounds
+pub mod MidRound
 pub mod Restarts
 pub mod Examples
+pub mod RoundExamples

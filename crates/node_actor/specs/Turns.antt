@@ -149,14 +149,18 @@ pub record StaysAt {B : Type 0} (old new : Seated B) : Type 0 where
   pub received : new.part.received ≡ old.part.received
   pub posted : new.part.posted ≡ old.part.posted
 
--- a view, and what its seat knows once the packet of an event has come: it has received that, and tried; nothing else is new, and nothing
--- at all if the actor has ended, or the event has no packet
-pub record Reaches {B : Type 0} (spoiled : Bool) (e : Option (Event B)) (v s : View B) : Type 0 where
+-- a view, and what its seat knows once these packets have come before an event: it has received them, and tried; nothing else is new, and
+-- nothing at all if the actor has ended, or the event has no packet
+pub record ReachesWith {B : Type 0} (got : List (Packet B)) (spoiled : Bool) (e : Option (Event B)) (v s : View B) : Type 0 where
   pub table : s ≡ knows s.part v
   pub me : s.part.me ≡ v.part.me
   pub seen : s.part.seen ≡ v.part.seen
   pub events : s.part.events ≡ v.part.events
   pub posted : s.part.posted ≡ v.part.posted
-  pub received : (k : ℕ) → received_from k s ≡ received_from k v ++ filter (λ p. p.sender == k) (received_by e)
+  pub received : (k : ℕ) → received_from k s ≡ received_from k v ++ filter (λ p. p.sender == k) got
   pub ended : spoiled ≡ true → s ≡ v
   pub alone : (x : Event B) → e ≡ Some x → packet_in x ≡ None → s ≡ v
+
+-- the same once the event's own packet has come
+abbrev pub Reaches : {B : Type 0} → Bool → Option (Event B) → View B → View B → Type 0
+Reaches spoiled e v s = ReachesWith (received_by e) spoiled e v s

@@ -1,5 +1,5 @@
 // The actor: how it takes events and turns, what it shows, and how it crashes or leaves.
-ghost use Rattle.std.specs.Prelude.{◌≡◌, ◌<◌, ◌++◌, ℕ, List, [], length, nat_lt, true, false, Some, None, Err, OnOk};
+ghost use Rattle.std.specs.Prelude.{◌≡◌, ◌<◌, ◌≤◌, ◌++◌, ℕ, List, [], length, nat_lt, true, false, Some, None, Err, OnOk, All};
 ghost use Rattle.paxos_packets.specs.Snapshot.{floor_in};
 ghost use Rattle.paxos_node.specs.Snapshots.{may_cut};
 ghost use Rattle.replica_machine.specs.Given.{AreGiven};
@@ -17,13 +17,16 @@ ghost use Rattle.actor_outboxes.specs.Outboxes.{waiting};
 ghost use Rattle.mail_table.specs.Seats.{Owns};
 ghost use Rattle.node_actor.specs.Actor.{acting, IsSeated};
 ghost use Rattle.node_actor.specs.Calls.{Acts, Cuts, Rests, is_own, take_event};
+ghost use Rattle.node_actor.specs.Rounds.{RoundOf};
 ghost use Rattle.node_actor.specs.Turns.{Turns};
 ghost use Rattle.node_actor.specs.Views.{View, seen, StandsFor};
 ghost use Rattle.paxos_planning.specs.Node.{told_length};
 
 use crate::event::{make_cut, make_event, pass};
 use crate::heard::Heard;
+use crate::hearing::Hearing;
 use crate::post::Post;
+use crate::rounding::round;
 use crate::turning::{LastTurn, turn};
 use actor_parts::{ActorFault, Parts};
 use mail_table::{Mail, NodeSeat};
@@ -55,7 +58,7 @@ impl<M: Machine, K: Keeper<M::Body> + Drop> Drop for Actor<M, K> {
             parts: _parts,
             seat: _seat,
             first: _,
-            last: _,
+            last: _last,
         } = self;
     }
 }
@@ -80,11 +83,12 @@ impl<M: Machine, K: Keeper<M::Body>> Actor<M, K> {
         requires seated { IsSeated M.Body.same (acting parts seat) }
         ensures { result ≡ acting parts seat }
     {
+        let last = LastTurn::none(parts.allocator());
         Actor {
             parts,
             seat,
             first: 1,
-            last: LastTurn::none(),
+            last,
         }
     }
 
@@ -138,9 +142,11 @@ impl<M: Machine, K: Keeper<M::Body>> Actor<M, K> {
     /// Takes a turn: for each peer for which packets are due, tries once to post the oldest; then tries to fetch from one peer after
     /// another, until a try wins. The packet that came, if one did, reaches the node; without one, with one for another node, or with one
     /// that is from no other member, nothing more happens. If the node takes a snapshot, a machine that is made of it follows the log from
-    /// then on; `Disagree` if no log is made of it. Each turn begins to fetch after the peer whose packet came last, or one peer further on.
+    /// then on; `Disagree` if no log is made of it. The boxes of the table hold one packet each. Each turn begins to fetch after the peer whose
+    /// packet came last, or one peer further on.
     pub fn turn(&mut self, mail: &Mail<M::Body>) -> Result<Vec<M::Say>, ActorFault<M::Say>>
         requires owned { Owns mail.now self.old.seat }
+        requires single { mail.now.most ≡ 1 }
         ensures still_owned { Owns mail.now self.new.seat }
         ensures me { self.new.node.me ≡ self.old.node.me }
         ensures members { self.new.node.members ≡ self.old.node.members }
@@ -157,6 +163,42 @@ impl<M: Machine, K: Keeper<M::Body>> Actor<M, K> {
             &mut self.parts,
             &mut self.first,
             &mut self.last,
+        )
+    }
+
+    /// Takes a round: makes the given events of this node, at most 64, in their order, and then the packets of the other members, each an event
+    /// of the node, in turn: all that one look into a member's box finds, and of further looks until one finds nothing or 64 packets of the
+    /// member came. What that sends waits, of its Forwards the last one alone; then there is one try for each peer for which packets wait, to
+    /// post up to as many together as a box holds. What the machine says is appended to `says`, in order.
+    ///
+    /// Passed over, as if it were lost, is a packet for another node, one that is from no other member, and an Accepted of a slot that the node
+    /// has applied. An own event for which no round is left is dropped. The first one for which there is no room, and the own ones after it, are
+    /// returned, to be made in a later round. After any other fault nothing is posted: `LostHere`, without sayings, if the node is down by an
+    /// event, which is made and the last one; `Disagree`, `Worn` and `Memory` if an event cannot be made, after those before it were; a fault
+    /// of the store if a commit failed, of whose events nothing is said, posted or shown; and `Memory`, too, if the machine fails.
+    pub fn round(
+        &mut self,
+        mail: &Mail<M::Body>,
+        events: Vec<Event<M::Body>>,
+        says: &mut Vec<M::Say>,
+    ) -> Result<Vec<Event<M::Body>>, ActorFault<M::Say>>
+        requires owned { Owns mail.now self.old.seat }
+        requires own { All (λ e. is_own self.old.node.me e ≡ true) events.items }
+        requires few { length events.items ≤ 64 }
+        ensures still_owned { Owns mail.now self.new.seat }
+        ensures me { self.new.node.me ≡ self.old.node.me }
+        ensures members { self.new.node.members ≡ self.old.node.members }
+        ensures rounds { (view : View M.Body) → StandsFor self.old view → (said : List M.Say) × (says.new.items ≡ says.old.items ++ said)
+            × RoundOf M.Body.same M.steps M.content M.loaded K.holds K.finds K.failures events.items self.old self.new view said result }
+    {
+        round(
+            mail,
+            &mut self.seat,
+            &mut self.parts,
+            &mut self.first,
+            &mut self.last,
+            events,
+            says,
         )
     }
 
@@ -275,6 +317,13 @@ impl<M: Machine, K: Keeper<M::Body>> Actor<M, K> {
         self.parts.has_pending()
     }
 
+    /// Returns how many entries of its node wait for a slot. Takes constant time.
+    pub fn pending_entries(&self) -> usize
+        ensures { result ≡ length self.now.node.state.pending }
+    {
+        self.parts.pending_entries()
+    }
+
     /// Returns whether its node leads.
     pub fn is_leading(&self) -> bool
         ensures { result ≡ is_leading self.now.node.state.proposer.role }
@@ -323,7 +372,28 @@ impl<M: Machine, K: Keeper<M::Body>> Actor<M, K> {
         self.last.heard
     }
 
-    /// Returns the peers to which the last turn posted.
+    /// Returns from which members the packets of the last round came, and what each showed, in order.
+    pub fn came(&self) -> &[Hearing]
+        ensures { result.now ≡ self.now.last.came }
+    {
+        self.last.came.as_slice()
+    }
+
+    /// Returns no sayings. Does not allocate.
+    pub fn silence(&self) -> Vec<M::Say>
+        ensures { result.items ≡ [] }
+    {
+        self.parts.silence()
+    }
+
+    /// Does nothing. Its contract says that the actor stands for what its seat knows.
+    pub fn stands(&self)
+        ensures { StandsFor self.now self.now.seat }
+    {
+        let _ = &self.seat; // for the proof
+    }
+
+    /// Returns the peers to which the last turn or round posted.
     pub fn posted(&self) -> NodeSet
         ensures { result ≡ self.now.last.posted }
     {
@@ -353,7 +423,7 @@ impl<M: Machine, K: Keeper<M::Body>> Actor<M, K> {
             parts,
             seat,
             first: _,
-            last: _,
+            last: _last,
         } = self;
         let (me, members) = (parts.me(), parts.members());
         let (rows, failed, keeper) = parts.leave_rows();
@@ -376,7 +446,7 @@ impl<M: Machine, K: Keeper<M::Body> + Drop> Actor<M, K> {
             parts,
             seat,
             first: _,
-            last: _,
+            last: _last,
         } = self;
         (seat, parts.leave())
     }

@@ -1,11 +1,12 @@
 // One event of an actor, from its plan to what the machine says.
-ghost use Rattle.std.specs.Prelude.{◌≡◌, ◌<◌, ◌^◌, ◌++◌, [], List, length, true, false, Some, None, Ok, Err, is_some, IfOk, OnOk, IfSome};
+ghost use Rattle.std.specs.Prelude.{◌≡◌, ◌<◌, ◌≤◌, ◌^◌, ◌++◌, [], List, length, true, false, Some, None, Ok, Err, is_some, IfOk, OnOk, IfSome};
 ghost use Rattle.paxos_node.specs.Adopting.{Fits, Planned};
 ghost use Rattle.paxos_node.specs.Held.{HasRoom};
 ghost use Rattle.paxos_node.specs.Plans.{plans};
 ghost use Rattle.paxos_node.specs.Snapshots.{may_cut};
 ghost use Rattle.paxos_node.specs.declared.event.Event.TheVariants.{Cut};
 ghost use Rattle.paxos_packets.specs.declared.entry.Entry.{Entry};
+ghost use Rattle.paxos_packets.specs.declared.packet.Packet as packets;
 ghost use Rattle.replica_machine.specs.Given.{AreGiven};
 ghost use Rattle.replica_machine.specs.Log.{IsLogOf, length_in, machine_from};
 ghost use Rattle.cluster_world.specs.MemberSnapshots.{own_cut, LoadsSaved};
@@ -16,9 +17,10 @@ ghost use Rattle.mail_table.specs.Boxes.{Follows, Received};
 ghost use Rattle.mail_table.specs.Seats.{Owns};
 ghost use Rattle.node_actor.specs.Actor.{acting, IsSeated};
 ghost use Rattle.node_actor.specs.Posts.{advanced};
-ghost use Rattle.node_actor.specs.Calls.{Acts, Cuts, Rests, is_cut, turn_event};
+ghost use Rattle.node_actor.specs.Calls.{Acts, ActsWith, Cuts, Rests, is_cut, turn_event};
+ghost use Rattle.node_actor.specs.MidRound.{SeatGoes};
 ghost use Rattle.node_actor.specs.Steps.{CarriesOn, CarriesOut, fault_without_plan, may_advance};
-ghost use Rattle.node_actor.specs.Turns.{Reaches, StaysAt};
+ghost use Rattle.node_actor.specs.Turns.{Reaches, ReachesWith, StaysAt};
 ghost use Rattle.node_actor.specs.Views.{View, is_for};
 
 use actor_parts::{ActorFault, Parts};
@@ -46,8 +48,10 @@ pub(crate) fn make_event<M: Machine, K: Keeper<M::Body>>(
     ensures seated { IsSeated M.Body.same (acting parts.new seat.new) }
     ensures stays { StaysAt seat.old seat.new }
     ensures who { StaysWho parts.old parts.new }
-    ensures acts { (view : View M.Body) → Reaches parts.old.spoiled (Some event.now) view seat.old →
-        Acts M.Body.same M.steps M.content M.loaded K.holds K.finds K.failures (Some event.now)
+    ensures counts { K.failures parts.old.keeper ≤ K.failures parts.new.keeper }
+    ensures seat { parts.old.spoiled ≡ false → SeatGoes M.Body.same parts.old.node.members event.now seat.old seat.new result }
+    ensures acts { (got : List (packets.Packet M.Body)) (view : View M.Body) → ReachesWith got parts.old.spoiled (Some event.now) view seat.old →
+        ActsWith M.Body.same M.steps M.content M.loaded K.holds K.finds K.failures got (Some event.now)
         (acting parts.old view) (acting parts.new seat.new) view result }
 {
     if parts.is_spoiled() {
@@ -211,7 +215,10 @@ pub(crate) fn deliver<M: Machine, K: Keeper<M::Body>>(
 }
 
 // Returns whether the packet is for this node, from another member.
-fn is_for<M: Machine, K: Keeper<M::Body>>(parts: &Parts<M, K>, packet: &Packet<M::Body>) -> bool
+pub(crate) fn is_for<M: Machine, K: Keeper<M::Body>>(
+    parts: &Parts<M, K>,
+    packet: &Packet<M::Body>,
+) -> bool
     ensures { result ≡ is_for parts.now.waiting.me parts.now.waiting.members packet.now }
 {
     packet.addressee == parts.me()
@@ -238,6 +245,7 @@ fn carry_on<M: Machine, K: Keeper<M::Body>>(
     ensures seated { IsSeated M.Body.same (acting parts.new seat.new) }
     ensures stays { StaysAt seat.old seat.new }
     ensures who { StaysWho parts.old parts.new }
+    ensures counts { K.failures parts.old.keeper ≤ K.failures parts.new.keeper }
     ensures did { CarriesOn M.steps M.content K.holds K.finds K.failures M.loaded outcome
         (acting parts.old seat.old) (acting parts.new seat.new) result }
 {
@@ -288,6 +296,7 @@ fn carry_out<M: Machine, K: Keeper<M::Body>>(
     ensures seated { IsSeated M.Body.same (acting parts.new seat.new) }
     ensures stays { StaysAt seat.old seat.new }
     ensures who { StaysWho parts.old parts.new }
+    ensures counts { K.failures parts.old.keeper ≤ K.failures parts.new.keeper }
     ensures did { CarriesOut M.steps M.content K.holds K.finds K.failures (base_log (unboxed made) outcome.change.snapshot parts.old.log) outcome
         (acting parts.old seat.old) (acting parts.new seat.new) result }
 {

@@ -3,9 +3,10 @@ ghost use Rattle.std.specs.Prelude.{◌≡◌, MatchOption, IfSome};
 ghost use Rattle.paxos_packets.specs.Members.{IsMember};
 ghost use Rattle.mail_table.specs.Seats.{Owns, knows};
 ghost use Rattle.mail_table.specs.Views.{box_of, receiving, lost};
+ghost use Rattle.node_actor.specs.Rounds.{look_at};
 ghost use Rattle.node_actor.specs.Turns.{Fetches, after, round, passed_by};
 
-use mail_table::{Mail, NodeSeat};
+use mail_table::{Batch, Mail, NodeSeat};
 use paxos_packets::{Body, Members, Packet};
 
 // Tries the other members' boxes once round from this one on, until a try wins. Returns whose packet came, and the packet.
@@ -16,6 +17,7 @@ pub(crate) fn fetch_round<B: Body>(
     first: u8,
 ) -> Option<(u8, Packet<B>)>
     requires owned { Owns mail.now seat.old }
+    requires single { mail.now.most ≡ 1 }
     requires members { seat.old.members ≡ members }
     requires first { IsMember members first }
     ensures owned { Owns mail.now seat.new }
@@ -36,6 +38,7 @@ pub(crate) fn fetch_round<B: Body>(
 // Tries once to fetch from this member, if it is another.
 fn fetch_other<B: Body>(mail: &Mail<B>, seat: &mut NodeSeat<B>, from: u8) -> Option<Packet<B>>
     requires owned { Owns mail.now seat.old }
+    requires single { mail.now.most ≡ 1 }
     requires member { IsMember seat.old.members from }
     ensures owned { Owns mail.now seat.new }
     ensures fetched { MatchOption result (seat.new ≡ knows (passed_by seat.old.members from seat.old.part) seat.old)
@@ -46,6 +49,20 @@ fn fetch_other<B: Body>(mail: &Mail<B>, seat: &mut NodeSeat<B>, from: u8) -> Opt
         return None;
     }
     mail.fetch(seat, from)
+}
+
+// Takes the packets out of the box from another member, all of them in one try, if any are in it.
+pub(crate) fn fetch_all<B: Body>(
+    mail: &Mail<B>,
+    seat: &mut NodeSeat<B>,
+    from: u8,
+) -> Option<Batch<B>>
+    requires owned { Owns mail.now seat.old }
+    requires member { IsMember seat.old.members from }
+    ensures owned { Owns mail.now seat.new }
+    ensures fetched { seat.new ≡ knows (look_at seat.old.members from result seat.old.part) seat.old }
+{
+    mail.fetch_all(seat, from)
 }
 
 // Returns the member after this one; the first after the last.

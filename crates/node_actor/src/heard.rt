@@ -15,8 +15,8 @@ pub enum Heard {
     Refusal { ballot: Ballot, promised: Ballot },
     /// It forwards entries.
     Entries,
-    /// It reports an entry that its sender has learned.
-    Learned,
+    /// It reports the entry of this slot, which its sender has learned.
+    Learned(u64),
     /// It asks for what was learned from this slot on: its sender's log ends before it.
     Ask(u64),
     /// It brings its sender's log up to this slot.
@@ -37,7 +37,7 @@ pub(crate) fn heard_in<B>(kind: &Kind<B>) -> Heard
             promised: *promised,
         },
         Kind::Forward { .. } => Heard::Entries,
-        Kind::Learned { .. } => Heard::Learned,
+        Kind::Learned { slot, .. } => Heard::Learned(slot.get()),
         Kind::Ask { first } => Heard::Ask(*first),
         Kind::Snapshot { snapshot } => Heard::Snapshot(snapshot.floor().get()),
     }

@@ -1,6 +1,8 @@
 //! What the definitions of an actor say, each as the contract of a function that does nothing.
-ghost use Rattle.std.specs.Prelude.{◌≡◌, true, false, Some, None, [], ◌∷◌};
+ghost use Rattle.std.specs.Prelude.{◌≡◌, true, false, Some, None, [], ◌∷◌, length};
 ghost use Rattle.paxos_node.specs.Applying.{down, started};
+ghost use Rattle.paxos_node.specs.Examples.{ballot, promised_to, waiting};
+ghost use Rattle.paxos_node.specs.declared.event.Event.TheVariants.{Start, Tick, Deliver};
 ghost use Rattle.paxos_planning.specs.Node.{told_length};
 ghost use Rattle.replica_machine.specs.Examples.{adding, lost_and_back, transport};
 ghost use Rattle.replica_machine.specs.SnapshotExamples.{of_eight};
@@ -8,6 +10,10 @@ ghost use Rattle.node_actor.specs.Compare.{fit_of};
 ghost use Rattle.node_actor.specs.Examples.{same_number, summed_up, cut_short, logs, first_node, full_node, rested_rows, ahead_node};
 ghost use Rattle.node_actor.specs.Examples.{brings, cuts, voted_rows, cut_outcome, cut_rows, bare_cut_rows};
 ghost use Rattle.node_actor.specs.Snapshots.{takes_over, takes_no_log, log_before, under_after, handed_by, cut_to};
+ghost use Rattle.actor_outboxes.specs.Outboxes.{due_of};
+ghost use Rattle.node_actor.specs.RoundExamples.{accept, accepted, act, asks, astray, follower, forward_of, holds, looks, makes, posts, sends, treats};
+ghost use Rattle.node_actor.specs.RoundExamples.{two_applied};
+ghost use Rattle.node_actor.specs.Rounds.{came, hearings};
 ghost use Rattle.node_actor.specs.Turns.{EachIsTried};
 ghost use Rattle.node_actor.specs.declared.compare.Fit.TheVariants.{Left, Meant, Others};
 
@@ -44,4 +50,31 @@ pub fn snapshot_examples()
     ensures left { fit_of same_number (Some cut_outcome) voted_rows voted_rows ≡ Left }
     ensures meant { fit_of same_number (Some cut_outcome) voted_rows cut_rows ≡ Meant }
     ensures others { fit_of same_number (Some cut_outcome) voted_rows bare_cut_rows ≡ Others }
+{}
+
+/// Which events a round makes, and which packets it posts, computed. Does not allocate.
+pub fn round_examples()
+    // own events are made in order; one for which no round is left is dropped
+    ensures own { makes (act 5 ∷ Tick 1 ∷ act 6 ∷ []) (waiting 0) ≡ act 5 ∷ Tick 1 ∷ act 6 ∷ [] }
+    ensures own_held { holds (act 5 ∷ Tick 1 ∷ act 6 ∷ []) (waiting 0) ≡ [] }
+    ensures dropped { makes (Start 1 ∷ act 6 ∷ []) (promised_to 281474976710655 2) ≡ act 6 ∷ [] }
+    ensures dropped_held { holds (Start 1 ∷ act 6 ∷ []) (promised_to 281474976710655 2) ≡ [] }
+
+    // from one for which there is no room on they are held back, whatever they are
+    ensures last_one { makes (act 5 ∷ act 6 ∷ Tick 1 ∷ []) (waiting 1023) ≡ act 5 ∷ [] }
+    ensures held { holds (act 5 ∷ act 6 ∷ Tick 1 ∷ []) (waiting 1023) ≡ act 6 ∷ Tick 1 ∷ [] }
+
+    // packets are treated in order; passed over is an Accepted of a slot that is applied, and what is for another node
+    ensures treated { treats (accepted 3 ∷ accept 2 ∷ []) two_applied ≡ Deliver (accepted 3) ∷ Deliver (accept 2) ∷ [] }
+    ensures late { treats (accepted 1 ∷ accepted 2 ∷ accepted 3 ∷ []) two_applied ≡ Deliver (accepted 3) ∷ [] }
+    ensures elsewhere { treats (astray ∷ accept 2 ∷ []) two_applied ≡ Deliver (accept 2) ∷ [] }
+
+    // three acts make three Forwards, of which the last one is due: it has all of them. Nothing else is left out or changes its place
+    ensures forwards { sends (act 5 ∷ act 6 ∷ act 7 ∷ []) follower ≡ forward_of (5 ∷ []) ∷ forward_of (5 ∷ 6 ∷ []) ∷ forward_of (5 ∷ 6 ∷ 7 ∷ []) ∷ [] }
+    ensures forwarded { posts (act 5 ∷ act 6 ∷ act 7 ∷ []) follower ≡ forward_of (5 ∷ 6 ∷ 7 ∷ []) ∷ [] }
+    ensures among_others { due_of (forward_of (5 ∷ []) ∷ asks ∷ forward_of (6 ∷ []) ∷ asks ∷ []) ≡ asks ∷ forward_of (6 ∷ []) ∷ asks ∷ [] }
+
+    // what came in looks came in their order
+    ensures in_turn { came looks ≡ accept 1 ∷ accepted 1 ∷ accepted 2 ∷ [] }
+    ensures heard { length (hearings looks) ≡ 3 }
 {}

@@ -38,7 +38,7 @@ pub(crate) fn send_waiting<M: Machine, K: Keeper<M::Body>>(
 }
 
 // Adds the peer to the set, if a packet was posted to it.
-fn note_post(set: &mut NodeSet, peer: u8, won: bool)
+pub(crate) fn note_post(set: &mut NodeSet, peer: u8, won: bool)
     ensures won { won ≡ true → (k : ℕ) → is_in set.new k ≡ (is_in set.old k || ((k == peer) && nat_lt k 8)) }
     ensures lost { won ≡ false → set.new ≡ set.old }
 {

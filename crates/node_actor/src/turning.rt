@@ -1,5 +1,5 @@
 // A turn: posts what is due, and fetches and treats at most one packet.
-ghost use Rattle.std.specs.Prelude.{◌≡◌, true, false, Err};
+ghost use Rattle.std.specs.Prelude.{◌≡◌, true, false, Err, []};
 ghost use Rattle.paxos_packets.specs.Members.{IsMember};
 ghost use Rattle.actor_parts.specs.Parts.{IsSound};
 ghost use Rattle.actor_parts.specs.Steps.{StaysWho};
@@ -10,31 +10,53 @@ ghost use Rattle.node_actor.specs.Turns.{Turns};
 use crate::event::{deliver, pass};
 use crate::fetching::{after, fetch_round};
 use crate::heard::{Heard, heard_in};
+use crate::hearing::Hearings;
 use crate::posting::send_waiting;
 use actor_parts::{ActorFault, Parts};
 use mail_table::{Mail, NodeSeat};
 use paxos_packets::NodeSet;
 use replica_machine::Machine;
+use std::alloc::Global;
 use store_keeper::Keeper;
 
-// What an actor shows of its last turn: the peer from which it fetched a packet, what that shows, and the peers to which it posted.
-#[derive(Clone, Copy, Drop)]
+// What an actor shows of its last turn or round: the peer from which the turn fetched a packet, what that shows, the peers to which it posted, and
+// what the packets of a round showed.
+#[derive(Drop)]
 pub(crate) struct LastTurn {
     pub(crate) from: Option<u8>,
     pub(crate) heard: Option<Heard>,
     pub(crate) posted: NodeSet,
+    pub(crate) came: Hearings,
 }
 
 impl LastTurn {
     // Returns what is shown before any turn.
-    pub(crate) fn none() -> LastTurn
+    pub(crate) fn none(alloc: Global) -> LastTurn
         ensures { result ≡ no_turn }
     {
         LastTurn {
             from: None,
             heard: None,
             posted: NodeSet::new(),
+            came: Hearings::new(alloc),
         }
+    }
+
+    // Begins a round: nothing of it is shown yet.
+    pub(crate) fn begin_round(&mut self)
+        ensures { self.new ≡ no_turn }
+    {
+        self.note(None, None, NodeSet::new());
+    }
+
+    // Notes what a turn has shown. What came in the last round is forgotten.
+    fn note(&mut self, from: Option<u8>, heard: Option<Heard>, posted: NodeSet)
+        ensures { self.new ≡ record { from = from; heard = heard; posted = posted; came = [] } }
+    {
+        self.from = from;
+        self.heard = heard;
+        self.posted = posted;
+        self.came.clear();
     }
 }
 
@@ -48,6 +70,7 @@ pub(crate) fn turn<M: Machine, K: Keeper<M::Body>>(
     last: &mut LastTurn,
 ) -> Result<Vec<M::Say>, ActorFault<M::Say>>
     requires owned { Owns mail.now seat.old }
+    requires single { mail.now.most ≡ 1 }
     requires sound { IsSound M.Body.same K.holds K.is_failed parts.old }
     requires seated { IsSeated M.Body.same (acting parts.old seat.old) }
     requires first { IsMember parts.old.node.members first.old }
@@ -65,21 +88,13 @@ pub(crate) fn turn<M: Machine, K: Keeper<M::Body>>(
     match fetch_round(mail, seat, members, *first) {
         None => {
             *first = after(members, *first);
-            *last = LastTurn {
-                from: None,
-                heard: None,
-                posted,
-            };
+            last.note(None, None, posted);
             pass(seat, parts)
         },
         Some((from, packet)) => {
             let heard = heard_in(&packet.kind);
             *first = after(members, from);
-            *last = LastTurn {
-                from: Some(from),
-                heard: Some(heard),
-                posted,
-            };
+            last.note(Some(from), Some(heard), posted);
             deliver(mail, seat, parts, packet)
         },
     }

@@ -3,7 +3,7 @@ use crate::check::Check;
 use serve_policy::Commits;
 use test_checks::check_eq;
 
-// How many microseconds a round took and how many commits it had; and then how many beats a commit takes, and how many acts come before a turn.
+// How many microseconds a round took and how many commits it had; and then how many beats a commit takes, and how many acts come before a round.
 type Row = (u32, u32, u8, u64);
 
 // A round without a commit shows nothing.
@@ -78,12 +78,12 @@ fn a_commit_takes_what_rounds_with_commits_show(rt: HostRuntime) {
     for rows in RUNS {
         let mut commits = Commits::new();
         check_eq!(&rt; commits.beats(), 0);
-        check_eq!(&rt; commits.acts_a_turn(), 64);
+        check_eq!(&rt; commits.acts_a_round(), 64);
         for row in *rows {
             let (micros, count, beats, acts) = *row;
             commits.note(micros, count);
             check_eq!(&rt; commits.beats(), beats, *row);
-            check_eq!(&rt; commits.acts_a_turn(), acts, *row);
+            check_eq!(&rt; commits.acts_a_round(), acts, *row);
         }
     }
 }

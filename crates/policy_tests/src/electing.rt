@@ -156,8 +156,8 @@ const SECONDS: [u64; 3] = [10, 30, 100];
 const FEW_BALLOTS: u64 = 8;
 
 // The same where the count says nothing, since a machine is far slower than others: each node doubles its patience, from one second until
-// it is longer than a takeover.
-const MANY_BALLOTS: u64 = 48;
+// it is longer than a takeover. That is eight times at each of three nodes at the most, and of the ballots between two of these some are cut short.
+const MANY_BALLOTS: u64 = 64;
 
 // How many times as long as the shortest takeover a play may take.
 const LONG_PLAY: u64 = 60;

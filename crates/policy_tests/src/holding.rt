@@ -8,14 +8,14 @@ use test_checks::check_eq;
 
 // At which beat how many packets wait, and whether acts are held back.
 const BACKPRESSURE: &[(u64, usize, bool)] = &[
-    (0, 256, false),
-    (0, 257, true),
-    (39, 257, true),
-    (40, 257, false),
-    (41, 256, false),
+    (0, 64, false),
+    (0, 65, true),
+    (39, 65, true),
+    (40, 65, false),
+    (41, 64, false),
     (80, 4096, true),
     (81, 4096, false),
-    (500, 257, false),
+    (500, 65, false),
 ];
 
 #[test]

@@ -135,30 +135,35 @@ fn a_client_that_reads_in_bursts_costs_at_most_a_twelfth_of_the_time(rt: HostRun
     }
 }
 
-// Whether the node leads, how many beats a commit takes, and how many acts may be under way.
-const ACTS: &[(bool, u8, u32)] = &[
-    (true, 0, 1000),
-    (true, 100, 1000),
-    (false, 0, 4),
-    (false, 1, 2),
-    (false, 100, 2),
+// Whether the node leads, how many entries are pending, how many beats a commit takes, and how many acts come before the next round.
+const ACTS: &[(bool, usize, u8, u32)] = &[
+    (true, 0, 0, 1000),
+    (true, 1, 100, 999),
+    (true, 999, 0, 1),
+    (true, 1000, 0, 0),
+    (true, 1024, 0, 0),
+    (false, 0, 0, 64),
+    (false, 0, 1, 2),
+    (false, 0, 100, 2),
+    (false, 1, 0, 0),
+    (false, 1, 100, 0),
+    (false, 1024, 0, 0),
 ];
 
 #[test]
-fn gives_1000_acts_if_it_leads_and_else_4_or_2(rt: HostRuntime) {
+fn gives_acts_up_to_1000_pending_if_it_leads_and_else_only_if_none_is(rt: HostRuntime) {
+    let mut admission = Admission::new();
+    check!(&rt; !admission.has_room());
     for row in ACTS {
-        let (leads, commit, most) = *row;
-        let mut admission = Admission::new();
-        for _ in 0..2 {
-            for _ in 0..most {
-                admission.see(leads, true, commit);
-                check!(&rt; admission.has_room(), *row);
-                admission.give();
-            }
-            check!(&rt; !admission.has_room(), *row);
-            // Nothing is pending, so all that was given is done.
-            admission.see(leads, false, commit);
+        let (leads, pending, commit, count) = *row;
+        admission.begin(leads, pending, commit);
+        for _ in 0..count {
+            check!(&rt; admission.has_room(), *row);
+            admission.give();
         }
+        check!(&rt; !admission.has_room(), *row);
+        admission.give();
+        check!(&rt; !admission.has_room(), *row);
     }
 }
 

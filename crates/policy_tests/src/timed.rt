@@ -1,6 +1,6 @@
 // A node of a simulated cluster with its time: its ticks, when its beats are due, and the packets that wait. Times are in microseconds.
 use crate::draws::Draws;
-use crate::voter::{Cost, Log, Packet, Role, Voter};
+use crate::voter::{Cost, Log, Packet, Role, Says, Voter};
 use paxos_packets::Members;
 use serve_policy::{Admission, Commits, Draining, Due, Sign, Ticks, Turn};
 use std::alloc::Global;
@@ -199,10 +199,18 @@ impl Node {
         }
     }
 
+    // The acts of the last round are over.
+    fn begin_acts(&mut self) {
+        let leads = self.voter.role == Role::Leading;
+        let pending = usize::from(self.voter.pending());
+        self.admission.begin(leads, pending, self.commits.beats());
+        self.given = 0;
+    }
+
     // A round begins: the last turn is counted.
     pub fn begin(&mut self, now: u64, weight: usize) {
         self.note_commits(now);
-        self.given = 0;
+        self.begin_acts();
         self.rounds = self.rounds.saturating_add(1);
         if self.due == 0 && self.rounds % ROUNDS_A_LOOK == 0 {
             self.look(now);
@@ -257,11 +265,9 @@ impl Node {
     }
 
     // Whether a client may act: the rules have room for an act, and if it leads, fewer were given in this round than may come before a turn.
-    pub fn may_act(&mut self) -> bool {
+    pub fn may_act(&self) -> bool {
         let leads = self.voter.role == Role::Leading;
-        let commit = self.commits.beats();
-        self.admission.see(leads, self.voter.is_pending(), commit);
-        let is_one_more = !leads || self.given < self.commits.acts_a_turn();
+        let is_one_more = !leads || self.given < self.commits.acts_a_round();
         is_one_more && self.admission.has_room()
     }
 
@@ -297,9 +303,9 @@ impl Node {
         }
     }
 
-    // The oldest packet that waits for the node, which is posted now.
+    // The oldest packet that waits for the node and is due, which is posted now.
     pub fn post(&mut self, to: u8) -> Option<Packet> {
-        let packet = self.waits.get_mut(usize::from(to))?.pop_front()?;
+        let packet = next_due(self.waits.get_mut(usize::from(to))?)?;
         if let Some(posted) = self.posted.get_mut(usize::from(to)) {
             *posted = true;
         }
@@ -395,4 +401,19 @@ impl Node {
 // A time up to this one, and at least half of it.
 fn draw_half(draws: &mut Draws, micros: u64) -> u64 {
     (micros / 2).saturating_add(draws.below((micros / 2).saturating_add(1)))
+}
+
+// Takes the oldest of these packets that is due: a Forward gives way to a later one, which has its entries that are still pending.
+fn next_due(waits: &mut VecDeque<Packet>) -> Option<Packet> {
+    for _ in 0..waits.len() {
+        let packet = waits.pop_front()?;
+        if !is_forward(&packet) || !waits.iter().any(is_forward) {
+            return Some(packet);
+        }
+    }
+    None
+}
+
+fn is_forward(packet: &Packet) -> bool {
+    matches!(packet.says, Says::Forward { .. })
 }

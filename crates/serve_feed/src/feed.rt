@@ -19,7 +19,7 @@ use crate::pace::Pace;
 use crate::peers::Peers;
 use crate::signs::lacks_entries;
 use crate::waking::wake_peers;
-use actor_run::{Feed, Seen};
+use actor_run::{RoundFeed, RoundSeen};
 use client_listener::ToClient;
 use paxos_node::Event;
 use paxos_packets::{Ballot, Members};
@@ -39,7 +39,7 @@ const MOST_ARRIVALS: u8 = 64;
 ///
 /// A round in which no thread stirred the node costs some loads. A client's request costs constant time, and a removed connection as many moves
 /// as there are connections; each time the node was stirred, each connection's ring is asked once. Messages are moved, not copied. After an
-/// idle turn, if entries or many packets moved since the last tick, the feed looks for some microseconds whether the node is woken: a thread
+/// idle round, if entries or many packets moved since the last tick, the feed looks for some microseconds whether the node is woken: a thread
 /// that waits for a packet has it sooner than the node could rest and be woken.
 pub struct ClientFeed<'a> {
     node: u8,
@@ -64,7 +64,8 @@ struct Boot {
     commits: Commits,
     peers: Peers,
     behind: Behind,
-    // What the node had promised after the turn that was counted last.
+    // How long the node's log was after the round that was counted last, and what the node had promised.
+    log: u64,
     promised: Option<Ballot>,
 }
 
@@ -79,6 +80,7 @@ impl Boot {
             commits: Commits::new(),
             peers: Peers::new(members),
             behind: Behind::new(),
+            log: 0,
             promised: None,
         }
     }
@@ -88,10 +90,10 @@ impl Boot {
 #[derive(Drop)]
 struct Round {
     number: u64,
-    // How many entries its turn had applied, and how many commits the node had made.
+    // How many entries the node had applied, and how many commits it had made.
     applied: u64,
     commits: u64,
-    // How many acts were given since, and how many may be before the turn.
+    // How many acts were given since, and how many may be before the next one.
     given: u64,
     most: u64,
     // Whether the node's log is cut in this round, in which nothing else is given then, and whether the cut was given.
@@ -207,7 +209,7 @@ impl<'a> ClientFeed<'a> {
         self.lanes.count()
     }
 
-    /// Returns whether the node is behind for good, so that its gate lets no turn pass before its next boot: its log ends before the other
+    /// Returns whether the node is behind for good, so that its gate lets no round pass before its next boot: its log ends before the other
     /// nodes' floors, and it may not take their snapshots in this boot.
     pub fn is_behind(&self) -> bool {
         self.pace.is_behind()
@@ -239,8 +241,8 @@ impl<'a> ClientFeed<'a> {
         }
     }
 
-    // Counts the last turn, and wakes the nodes that it concerns. Once a round.
-    fn count(&mut self, seen: &Seen)
+    // Counts the last round, and wakes the nodes that it concerns.
+    fn count(&mut self, seen: &RoundSeen<'_>)
         ensures node { self.new.node ≡ self.old.node }
         ensures tells { (given : List (ℕ × Act)) → Tells self.old.lanes.sources given → Tells self.new.lanes.sources given }
     {
@@ -258,18 +260,18 @@ impl<'a> ClientFeed<'a> {
         }
     }
 
-    // Judges whether the last turn was idle: nothing came, all that could be posted is, and no event is at hand.
-    fn judge(&mut self, seen: &Seen, moved: bool)
+    // Judges whether the last round was idle: nothing came, all that could be posted is, and no event is at hand.
+    fn judge(&mut self, seen: &RoundSeen<'_>, moved: bool)
         ensures node { self.new.node ≡ self.old.node }
         ensures tells { (given : List (ℕ × Act)) → Tells self.old.lanes.sources given → Tells self.new.lanes.sources given }
     {
-        if seen.pending || seen.applied != self.round.applied {
+        if seen.pending > 0 || seen.applied != self.round.applied {
             self.pace.moved();
         } else if moved {
             self.pace.stirred();
         }
         self.round.applied = seen.applied;
-        let is_still = !moved || seen.from.is_none() && seen.waiting == [0; 7];
+        let is_still = !moved || seen.came.is_empty() && seen.waiting == [0; 7];
         let is_idle = is_still && !self.round.is_busy && !self.may_act() && !self.may_tend();
         self.pace.judge(is_idle && !self.is_woken_soon());
         self.round.is_busy = false;
@@ -286,7 +288,7 @@ impl<'a> ClientFeed<'a> {
         }
     }
 
-    // Returns whether the node is woken within some microseconds, if that is expected. The turn that follows then finds what it was woken for,
+    // Returns whether the node is woken within some microseconds, if that is expected. The round that follows then finds what it was woken for,
     // and no idle one comes between.
     fn is_woken_soon(&mut self) -> bool
         ensures node { self.new.node ≡ self.old.node }
@@ -299,7 +301,7 @@ impl<'a> ClientFeed<'a> {
         is_woken
     }
 
-    // Notes that something happens in this round: no rest comes before the turn that follows is counted.
+    // Notes that something happens in this round: no rest comes before the round that follows is counted.
     fn stay(&mut self)
         ensures node { self.new.node ≡ self.old.node }
         ensures boot { self.new.boot.number ≡ self.old.boot.number }
@@ -310,28 +312,36 @@ impl<'a> ClientFeed<'a> {
         self.pace.judge(false);
     }
 
+    // Notes how many acts may be given in the round that begins.
+    fn begin_acts(&mut self, seen: &RoundSeen<'_>)
+        ensures node { self.new.node ≡ self.old.node }
+        ensures lanes { self.new.lanes ≡ self.old.lanes }
+    {
+        let commit = self.boot.commits.beats();
+        self.boot.admission.begin(seen.leads, seen.pending, commit);
+        self.round.given = 0;
+        self.round.most = if seen.leads {
+            self.boot.commits.acts_a_round()
+        } else {
+            u64::MAX
+        };
+    }
+
     // Notes what the node has come to.
-    fn see(&mut self, seen: &Seen)
+    fn see(&mut self, seen: &RoundSeen<'_>)
         ensures node { self.new.node ≡ self.old.node }
         ensures tells { (given : List (ℕ × Act)) → Tells self.old.lanes.sources given → Tells self.new.lanes.sources given }
     {
-        let commit = self.boot.commits.beats();
-        self.boot.admission.see(seen.leads, seen.pending, commit);
         let round = self.pace.round();
         if round != self.round.number {
             self.round.number = round;
-            self.round.given = 0;
-            self.round.most = if seen.leads {
-                self.boot.commits.acts_a_turn()
-            } else {
-                u64::MAX
-            };
+            self.begin_acts(seen);
             self.count(seen);
         }
     }
 
     // Returns whether a tick may come: none is held back for another member, or the node lacks entries.
-    fn may_tick(&self, seen: &Seen) -> bool {
+    fn may_tick(&self, seen: &RoundSeen<'_>) -> bool {
         !self.boot.peers.holds_ticks() || lacks_entries(seen)
     }
 
@@ -421,6 +431,28 @@ impl<'a> ClientFeed<'a> {
         })
     }
 
+    // Returns the next event of the round, if there is one: its cut, what time has brought, of which ticks may be held back, or what a client does.
+    fn give(&mut self, may_tick: bool) -> Option<Event<Act>>
+        ensures { (given : List (Event Act)) → Saw self.old.node self.old.lanes.sources given
+            → Saw self.new.node self.new.lanes.sources (given ++ option_to_list result) }
+    {
+        if self.round.is_cutting {
+            return self.cut();
+        }
+        let commit = self.boot.commits.beats();
+        if self.round.may_be_due
+            && let Some(due) = self.boot.ticks.next(may_tick, commit)
+        {
+            return Some(self.due(due));
+        }
+        self.round.may_be_due = false;
+        if !self.may_act() {
+            self.tend();
+            return None;
+        }
+        self.act()
+    }
+
     // Passes a saying to its transport; one for another boot's is dropped.
     fn tell(&mut self, say: Say)
         ensures node { self.new.node ≡ self.old.node }
@@ -438,33 +470,19 @@ impl<'a> ClientFeed<'a> {
     }
 }
 
-impl Feed<Act, Say> for ClientFeed<'_> {
+impl RoundFeed<Act, Say> for ClientFeed<'_> {
     ghost use Rattle.serve_feed.specs.Saw.{Saw};
 
     // What it did with its sayings is a clause of `hand`: one for a transport that is gone is dropped.
     ghost saw = { λ feed given got. Saw feed.node feed.lanes.sources given };
 
-    fn next(&mut self, seen: Seen) -> Option<Event<Act>>
+    fn next(&mut self, seen: &RoundSeen<'_>) -> Option<Event<Act>>
         ensures { (given : List (Event Act)) (got : List Say) → Saw self.old.node self.old.lanes.sources given
             → Saw self.new.node self.new.lanes.sources (given ++ option_to_list result) }
     {
-        self.see(&seen);
-        if self.round.is_cutting {
-            return self.cut();
-        }
-        let may_tick = self.may_tick(&seen);
-        let commit = self.boot.commits.beats();
-        if self.round.may_be_due
-            && let Some(due) = self.boot.ticks.next(may_tick, commit)
-        {
-            return Some(self.due(due));
-        }
-        self.round.may_be_due = false;
-        if !self.may_act() {
-            self.tend();
-            return None;
-        }
-        self.act()
+        self.see(seen);
+        let may_tick = self.may_tick(seen);
+        self.give(may_tick)
     }
 
     fn hand(&mut self, says: Vec<Say>)

@@ -7,6 +7,6 @@ pub enum Held {
     Peer,
     /// As many acts are under way as may be.
     UnderWay,
-    /// As many acts were given since the last turn as the time of a commit allows.
+    /// As many acts were given since the last round as the time of a commit allows.
     Commits,
 }

@@ -21,7 +21,7 @@ use wamp_message_types::Read;
 /// How many lanes are looked at for one act, at most.
 const MOST_LOOKS: u16 = 512;
 
-/// How many lanes are looked at before a turn, at most, while no act may be given.
+/// How many lanes are looked at before a round, at most, while no act may be given.
 const LOOKS_ASIDE: u8 = 8;
 
 // The connections of a node, by ascending number of their transports.

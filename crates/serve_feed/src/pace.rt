@@ -20,7 +20,7 @@ const ROUNDS_A_LOOK: u64 = 64;
 pub struct Pace {
     // The number of the round.
     round: Cell<u64>,
-    // Whether the turn that was judged last was idle, and whether none was judged since the last rest.
+    // Whether the round that was judged last was idle, and whether none was judged since the last rest.
     is_idle: Cell<bool>,
     is_rested: Cell<bool>,
     // How many beats are due, and how many the feed has counted since the gate looked at the clock.
@@ -91,7 +91,7 @@ impl Pace {
         self.round.get()
     }
 
-    // Notes whether the last turn was idle. One that came before a rest says nothing of what came since.
+    // Notes whether the last round was idle. One that came before a rest says nothing of what came since.
     pub(crate) fn judge(&self, is_idle: bool) {
         self.is_idle.set(is_idle && !self.is_rested.get());
         self.is_rested.set(false);
@@ -104,12 +104,12 @@ impl Pace {
     }
 
     // Returns whether the node is likely to be woken before beats are due: entries or many packets moved since the last tick. The first
-    // turn after a rest comes before any look.
+    // round after a rest comes before any look.
     pub(crate) fn expects_more(&self) -> bool {
         self.is_moving() && self.due.get() == 0 && !self.is_rested.get()
     }
 
-    // Returns how many beats are due: turns without a packet count while some are.
+    // Returns how many beats are due: rounds without a packet count while some are.
     pub(crate) fn due(&self) -> u64 {
         self.due.get()
     }
@@ -163,7 +163,7 @@ impl Pace {
         self.cut.set(Cut::Made);
     }
 
-    // Notes that the node is behind for good: no further turn passes the gate in this boot.
+    // Notes that the node is behind for good: no further round passes the gate in this boot.
     pub(crate) fn gives_up(&self) {
         self.is_behind.set(true);
     }
@@ -179,8 +179,8 @@ impl Pace {
     }
 }
 
-/// The gate of a node's thread. If a turn since the last rest was idle and no beats are due, it rests until another thread wakes the node
-/// or the next beats are due; then it asks the caller's gate. One more turn comes between the idle one and the rest: what that turn may
+/// The gate of a node's thread. If a round since the last rest was idle and no beats are due, it rests until another thread wakes the node
+/// or the next beats are due; then it asks the caller's gate. One more round comes between the idle one and the rest: what that round may
 /// take was put there after the idle one, and the thread that put it there wakes the node. If entries or many packets moved since the last
 /// tick, the feed first looks, between the two, whether the node is woken.
 ///
@@ -189,7 +189,7 @@ impl Pace {
 ///
 /// A round costs some loads, and each 64th one a look at the clock; where the node's store is files two looks, since the rounds with a
 /// commit are timed, and one while the log is long enough to be cut. If the clock cannot be read a tick is always due, and so is a cut of such
-/// a log. Once the feed has found the node behind for good no turn passes until the next boot.
+/// a log. Once the feed has found the node behind for good no round passes until the next boot.
 #[derive(Drop)]
 pub struct Paced<'a, R: Wait + Clock, G: Gate> {
     rt: &'a R,
@@ -314,7 +314,7 @@ impl<'a, R: Wait + Clock, G: Gate> Paced<'a, R, G> {
         next
     }
 
-    // Rests until somebody wakes the node or beats are due; at least two turns follow.
+    // Rests until somebody wakes the node or beats are due; at least two rounds follow.
     fn rest(&self) {
         let left = self.left();
         if !left.is_zero() {

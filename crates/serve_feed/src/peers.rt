@@ -1,6 +1,6 @@
 // How the other members get on, and whether acts or ticks are held back for one of them.
-use crate::signs::offered_in;
-use actor_run::Seen;
+use crate::signs::offered_by;
+use actor_run::{Hearing, RoundSeen};
 use node_actor::Heard;
 use paxos_packets::Members;
 use serve_policy::{Backpressure, Debt, Draining, Gaining, Telling};
@@ -39,7 +39,7 @@ pub(crate) struct Peers {
     // How many members there are; member 1 comes first in each list.
     count: u8,
     peers: [Peer; 7],
-    // How many packets waited for each member after the last turn, and at which beat that was judged.
+    // How many packets waited for each member after the last round, and at which beat that was judged.
     waiting: [u16; 7],
     judged: u64,
     holds_acts: bool,
@@ -108,11 +108,11 @@ impl Peers {
         false
     }
 
-    // Judges each member by what a turn at this beat has shown, if a commit takes `commit` beats. Returns whether the number of packets that
+    // Judges each member by what a round at this beat has shown, if a commit takes `commit` beats. Returns whether the number of packets that
     // wait for a member has changed.
-    pub fn watch(&mut self, beat: u64, commit: u8, seen: &Seen) -> bool {
-        if let Some(from) = seen.from {
-            self.hear(beat, from, seen);
+    pub fn watch(&mut self, beat: u64, commit: u8, seen: &RoundSeen<'_>) -> bool {
+        for hearing in seen.came {
+            self.hear(beat, *hearing, seen);
         }
         let has_changed = seen.waiting != self.waiting;
         if has_changed || beat != self.judged {
@@ -124,14 +124,14 @@ impl Peers {
     }
 
     // Notes what a packet of a member shows.
-    fn hear(&mut self, beat: u64, from: u8, seen: &Seen) {
-        let place = usize::from(from).wrapping_sub(1);
+    fn hear(&mut self, beat: u64, hearing: Hearing, seen: &RoundSeen<'_>) {
+        let place = usize::from(hearing.from).wrapping_sub(1);
         if place >= 7 {
             return;
         }
         let peer = &mut self.peers[place];
-        peer.telling.hears(seen.applied, offered_in(seen.heard));
-        if let Some(Heard::Ask(first)) = seen.heard {
+        peer.telling.hears(seen.applied, offered_by(hearing.heard));
+        if let Heard::Ask(first) = hearing.heard {
             peer.debt.asks(beat, first, seen.applied, seen.floor);
             peer.gaining.asks(beat, first, seen.applied, seen.floor);
         }
@@ -139,7 +139,7 @@ impl Peers {
 
     // Judges each member: acts are held back for one that falls behind or gains, ticks for one that packets wait for, and a cut for one that
     // is owed entries.
-    fn judge(&mut self, beat: u64, commit: u8, seen: &Seen) {
+    fn judge(&mut self, beat: u64, commit: u8, seen: &RoundSeen<'_>) {
         let mut holds_acts = false;
         let mut holds_ticks = false;
         let mut is_owed = false;

@@ -1,4 +1,4 @@
--- How long a node's commits take, as its turns have shown (docs/THREADS.md). Nothing that is claimed of a cluster rests on it.
+-- How long a node's commits take, as its rounds have shown (docs/THREADS.md). Nothing that is claimed of a cluster rests on it.
 use Rattle.std.specs.Prelude.{ℕ, ◌+◌, ◌-◌, ◌*◌, ◌/◌, ◌==◌, suc, nat_lt, max, min, if◌then◌else◌}
 
 -- a commit took this many microseconds, and as many others were reckoned with before. The time rises to a longer one, but at most doubles,
@@ -14,6 +14,6 @@ noting micros commits known = if commits == 0 then known else taking (micros / c
 abbrev pub beats_of : ℕ → ℕ
 beats_of known = min (known / 2000) 100
 
--- how many acts a node gives before a turn: as many as it commits within a beat, but at least one, and 64 at the most
-abbrev pub acts_a_turn : ℕ → ℕ
-acts_a_turn known = max (min (2000 / suc known) 64) 1
+-- how many acts a node gives before a round: as many as it commits within a beat, but at least one, and at most 64
+abbrev pub acts_a_round : ℕ → ℕ
+acts_a_round known = max (min (2000 / suc known) 64) 1

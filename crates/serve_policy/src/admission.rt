@@ -1,74 +1,80 @@
-// How many acts a node may have under way, as a leader and otherwise.
-ghost use Rattle.std.specs.Prelude.{◌≡◌};
-ghost use Rattle.serve_policy.specs.Admission.{no_acts, seeing, has_room, giving};
+// How many acts a node gives before a round, as a leader and otherwise.
+ghost use Rattle.std.specs.Prelude.{◌≡◌, ◌-◌, nat_lt};
+ghost use Rattle.serve_policy.specs.Admission.{acts_before_round, forwarded};
 
 use std::marker::Model;
 
-/// How many acts may be under way at a node that leads. A node has room for 1,024 pending entries, so some is always left for its own.
-const MOST_UNDER_WAY: u32 = 1000;
+/// How many entries may be pending at a node that leads. A node has room for 1,024, so some is always left for its own.
+const MOST_PENDING: usize = 1000;
 
-/// How many acts may be under way at a node that does not lead. It forwards all its pending entries with each act, and a leader that has
-/// applied one by then proposes it again in vain. With many under way most slots would go to such repeats; with four, one in a hundred does.
-const MOST_FORWARDED: u32 = 4;
+/// How many acts a node that does not lead gives before a round: as many as it gives to a round at all. All of them go to the leader in one
+/// Forward.
+const MOST_FORWARDED: usize = 64;
 
-/// How many may be under way at such a node if a commit takes a beat or more: a packet then takes as long as several acts.
-const MOST_FORWARDED_SLOWLY: u32 = 2;
+/// How many such a node gives if a commit takes a beat or more: the leader commits each of them by itself.
+const MOST_FORWARDED_SLOWLY: usize = 2;
 
-/// How many acts a node has given since nothing was pending, and how many it may give. A clause sees both numbers.
+/// How many acts a node may still give before its next round. A clause sees that number.
+///
+/// A node that does not lead gives acts only before a round at whose beginning nothing of it is pending, and all of these at once. So it gives
+/// as many in each round trip to the leader, however long that takes, and forwards an act few times.
 #[derive(Drop)]
 pub struct Admission {
-    under_way: u32,
-    most: u32,
+    left: usize,
 }
 
 impl Model for Admission {
-    ghost use Rattle.serve_policy.specs.Admission.{Acts};
+    ghost use Rattle.std.specs.Prelude.{ℕ};
 
-    ghost Value = { Acts };
+    ghost Value = { ℕ };
 
-    ghost view = { λ a. record { under_way = a.under_way; most = a.most } };
+    ghost view = { λ admission. admission.left };
 }
 
 impl Admission {
-    /// Returns the admission of a node that has given no act and does not lead.
+    /// Returns the admission of a node before its first round: it gives no act.
     pub const fn new() -> Admission
-        ensures { result ≡ no_acts }
+        ensures { result ≡ 0 }
     {
-        Admission {
-            under_way: 0,
-            most: MOST_FORWARDED,
-        }
+        Admission { left: 0 }
     }
 
-    /// Notes whether the node leads, whether entries of it are pending, and how many beats a commit takes: if no entry is pending, none of its
-    /// acts is under way. Takes constant time.
-    pub fn see(&mut self, leads: bool, is_pending: bool, commit: u8)
-        ensures { self.new ≡ seeing leads is_pending commit self.old }
+    /// Notes that a round is over, or the first one is to come: whether the node leads, how many entries of it are pending, and how many beats
+    /// a commit takes. Takes constant time.
+    pub fn begin(&mut self, leads: bool, pending: usize, commit: u8)
+        ensures { self.new ≡ acts_before_round leads pending commit }
     {
-        self.most = if leads {
-            MOST_UNDER_WAY
-        } else if commit == 0 {
-            MOST_FORWARDED
+        self.left = if leads {
+            MOST_PENDING.saturating_sub(pending)
+        } else if pending == 0 {
+            forwarded(commit)
         } else {
-            MOST_FORWARDED_SLOWLY
+            0
         };
-        if !is_pending {
-            self.under_way = 0;
-        }
     }
 
-    /// Returns whether the node may give one more act: fewer than 1,000 are under way if it leads, and else fewer than 4, or fewer than 2 if a
-    /// commit takes a beat or more.
+    /// Returns whether the node may give one more act before its next round.
     pub fn has_room(&self) -> bool
-        ensures { result ≡ has_room self.now }
+        ensures { result ≡ nat_lt 0 self.now }
     {
-        self.under_way < self.most
+        self.left > 0
     }
 
     /// Notes that the node gives an act.
     pub fn give(&mut self)
-        ensures { self.new ≡ giving self.old }
+        ensures { self.new ≡ self.old - 1 }
     {
-        self.under_way = self.under_way.saturating_add(1);
+        self.left = self.left.saturating_sub(1);
+    }
+}
+
+// Returns how many acts a node gives that does not lead, if a commit takes so many beats.
+const fn forwarded(commit: u8) -> usize
+    ensures { result ≡ forwarded commit }
+{
+    if commit == 0 {
+        MOST_FORWARDED
+    } else {
+        MOST_FORWARDED_SLOWLY
     }
 }

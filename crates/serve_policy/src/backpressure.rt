@@ -5,7 +5,7 @@ ghost use Rattle.serve_policy.specs.Backpressure.{backpressure};
 use std::marker::Model;
 
 /// The number of packets that may wait for a node that keeps up.
-const MOST_WAITING: usize = 256;
+const MOST_WAITING: usize = 64;
 
 /// The number of beats for which acts are held back for a node that does not keep up.
 const BEATS_HELD: u64 = 40;
@@ -37,7 +37,7 @@ impl Backpressure {
         Backpressure { last: 0 }
     }
 
-    /// Returns whether acts are to be held back, if this many packets wait for it at this beat: more than 256 wait, and fewer than 40 beats
+    /// Returns whether acts are to be held back, if this many packets wait for it at this beat: more than 64 wait, and fewer than 40 beats
     /// have ended since the one at which no more waited last. Takes constant time.
     pub fn holds(&mut self, beat: u64, waiting: usize) -> bool
         ensures { (result, self.new) ≡ backpressure beat waiting self.old }

@@ -1,6 +1,6 @@
-// How long a node's commits take, and how many acts it gives before a turn.
+// How long a node's commits take, and how many acts it gives before a round.
 ghost use Rattle.std.specs.Prelude.{◌≡◌};
-ghost use Rattle.serve_policy.specs.Commits.{taking, noting, beats_of, acts_a_turn};
+ghost use Rattle.serve_policy.specs.Commits.{taking, noting, beats_of, acts_a_round};
 
 use std::marker::Model;
 
@@ -16,7 +16,7 @@ const MICROS_MORE: u32 = 500;
 /// The greatest number of beats that is reckoned with for a commit.
 const MOST_BEATS: u32 = 100;
 
-/// How long a node's commits take, by its turns with commits. A clause sees the time in microseconds, which is 0 at first.
+/// How long a node's commits take, by its rounds with commits. A clause sees the time in microseconds, which is 0 at first.
 ///
 /// A disk may take ten milliseconds for what another does in a tenth of one. What is sent again goes by that time, and so does how many acts
 /// a node gives before it posts again: what is sent again before it can be answered only keeps the others busy.
@@ -41,7 +41,7 @@ impl Commits {
         Commits { micros: 0 }
     }
 
-    /// Notes that turns with this many commits took `micros` microseconds. The time rises to that of one of these, to twice what it was and
+    /// Notes that rounds with this many commits took `micros` microseconds. The time rises to that of one of these, to twice what it was and
     /// half a millisecond at the most, or falls by an eighth of what it is above it. Takes constant time.
     pub fn note(&mut self, micros: u32, commits: u32)
         ensures { self.new ≡ noting micros commits self.old }
@@ -59,9 +59,9 @@ impl Commits {
         (self.micros / BEAT_MICROS).min(MOST_BEATS) as u8
     }
 
-    /// Returns how many acts a node gives before a turn: as many as it commits within a beat, but at least one, and 64 at the most.
-    pub fn acts_a_turn(&self) -> u64
-        ensures { result ≡ acts_a_turn self.now }
+    /// Returns how many acts a node gives before a round: as many as it commits within a beat, but at least one, and at most 64.
+    pub fn acts_a_round(&self) -> u64
+        ensures { result ≡ acts_a_round self.now }
     {
         (u64::from(BEAT_MICROS) / (u64::from(self.micros) + 1))
             .min(MOST_ACTS)

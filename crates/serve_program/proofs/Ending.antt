@@ -5,7 +5,7 @@ use Rattle.std.specs.Prelude.{◌==◌, ◌||◌, not}
 use Rattle.actor_parts.specs.Fault as actor
 use Rattle.actor_parts.specs.declared.fault.ActorFault.{ActorFault}
 use Rattle.actor_parts.specs.declared.fault.ActorFault.TheVariants as acted
-use Rattle.actor_run.specs.Answers.{is_refusal, IsQuiet}
+use Rattle.actor_run.specs.Answers.{is_refusal}
 use Rattle.node_actor.specs.Beginning.{MayKeepFrom}
 use Rattle.node_actor.specs.Posts.{Posted}
 use Rattle.node_actor.specs.Preparing.{Refuses, IsUnmade, unread, others, unjudged, worn, unread_first, unmade, unbooted, strayed}
@@ -115,11 +115,11 @@ ends_refused same loaded holds finds is_faithful failures p old new f is made nu
 
 -- the fault of a run, which is no refusal
 
-run_by : {Y : Type 0} (f a : ActorFault Y) → is_refusal f ≡ false → IsQuiet f a → fatal_by (actor.number_of a) ≡ true
-run_by acted.Failed a fatal quiet = ap (λ x. fatal_by (actor.number_of x)) quiet
-run_by acted.Rounds a fatal quiet = absurd (false≢true (sym fatal))
-run_by acted.Full a fatal quiet = absurd (false≢true (sym fatal))
-run_by (acted.Keeper f) a fatal quiet = ap (λ x. fatal_by (actor.number_of x)) quiet ∙ kept_by f
+run_by : {Y : Type 0} (a : ActorFault Y) → is_refusal a ≡ false → fatal_by (actor.number_of a) ≡ true
+run_by acted.Failed fatal = refl
+run_by acted.Rounds fatal = absurd (false≢true (sym fatal))
+run_by acted.Full fatal = absurd (false≢true (sym fatal))
+run_by (acted.Keeper f) fatal = kept_by f
   where
     kept_by : (f : KeeperFault) → fatal_by (keeping.number_of f) ≡ true
     kept_by store.Store = refl
@@ -128,11 +128,10 @@ run_by (acted.Keeper f) a fatal quiet = ap (λ x. fatal_by (actor.number_of x)) 
     kept_by store.Memory = refl
     kept_by store.Failed = refl
     kept_by store.Boots = refl
-run_by acted.Disagree a fatal quiet = ap (λ x. fatal_by (actor.number_of x)) quiet
-run_by (acted.LostHere says) a fatal quiet = ap (λ x. fatal_by (actor.number_of x)) quiet.2
-run_by acted.Worn a fatal quiet = ap (λ x. fatal_by (actor.number_of x)) quiet
-run_by acted.Memory a fatal quiet = ap (λ x. fatal_by (actor.number_of x)) quiet
+run_by acted.Disagree fatal = refl
+run_by (acted.LostHere says) fatal = refl
+run_by acted.Worn fatal = refl
+run_by acted.Memory fatal = refl
 
-pub ends_boot : {Y : Type 0} (f a : ActorFault Y) → is_refusal f ≡ false → IsQuiet f a
-    → (made : NodeFault) → number_of made ≡ actor.number_of a → is_fatal made ≡ true
-ends_boot f a fatal quiet made number = by_number made (ap fatal_by number ∙ run_by f a fatal quiet)
+pub ends_boot : {Y : Type 0} (a : ActorFault Y) → is_refusal a ≡ false → (made : NodeFault) → number_of made ≡ actor.number_of a → is_fatal made ≡ true
+ends_boot a fatal made number = by_number made (ap fatal_by number ∙ run_by a fatal)

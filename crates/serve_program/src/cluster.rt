@@ -14,7 +14,7 @@ pub(crate) trait Cluster {
 }
 
 impl Cluster for Brand {
-    ghost table = { record { office = record { number = 0; log_name = 0; cells_name = 0 }; table = 0; members = 0 } };
+    ghost table = { record { office = record { number = 0; log_name = 0; cells_name = 0 }; table = 0; members = 0; most = 0 } };
 }
 
 /// The seat of a node that was never opened, the table that owns it, and the members of the cluster.

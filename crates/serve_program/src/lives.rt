@@ -1,4 +1,4 @@
-// The lives of a node on its thread: it is opened over its store and turned until its gate is shut. If it is lost in its boot, or behind the
+// The lives of a node on its thread: it is opened over its store and run until its gate is shut. If it is lost in its boot, or behind the
 // others for good, it begins its next one over the same store.
 ghost use Rattle.std.specs.Prelude.{◌≡◌, [], true, false, IfOk, IfErr, OnOk};
 ghost use Rattle.actor_parts.specs.Fault as actor;
@@ -10,7 +10,7 @@ ghost use Rattle.serve_program.specs.Fault.{number_of, is_fatal, IsEnding};
 use crate::cluster::FreshSeat;
 use crate::fault::NodeFault;
 use crate::source::{Boots, Cause, Source};
-use actor_run::{Gate, run_node};
+use actor_run::{Gate, run_rounds};
 use node_actor::{Actor, ActorFault, Body, Keeper, Machine, Mail, NodeSeat, Post};
 use std::alloc::Global;
 
@@ -121,9 +121,10 @@ fn judge_end(fault: NodeFault) -> Result<(), NodeFault>
     }
 }
 
-// Turns the actor until its gate lets no further turn pass, or until it is lost in its boot. Returns why the node begins another boot, if it
+// Runs the actor by rounds until its gate lets no further one pass, or until it is lost in its boot. Returns why the node begins another boot, if it
 // does. Any other fault is returned.
 fn run_boot<M: Machine, K: Keeper<M::Body>, G: Gate, F: Boots<M::Body, M::Say>>(
+    alloc: Global,
     mail: &Mail<M::Body>,
     actor: &mut Actor<M, K>,
     gate: &G,
@@ -135,7 +136,7 @@ fn run_boot<M: Machine, K: Keeper<M::Body>, G: Gate, F: Boots<M::Body, M::Say>>(
     ensures owned { Owns mail.now actor.new.seat }
     ensures ending { IfErr result IsEnding }
 {
-    match run_node(mail, actor, gate, feed) {
+    match run_rounds(alloc, mail, actor, gate, feed) {
         Ok(()) => Ok(feed.is_behind().then_some(Cause::Behind)),
         Err(fault) => match judge_end(NodeFault::from(fault)) {
             Ok(()) => Ok(Some(Cause::Lost)),
@@ -153,7 +154,7 @@ fn leave<M: Machine, K: Keeper<M::Body> + Drop>(actor: Actor<M, K>) -> NodeSeat<
     seat
 }
 
-/// Opens the node at this seat over its store, with a machine from the source, and turns it until its gate is shut; returns its seat. A node
+/// Opens the node at this seat over its store, with a machine from the source, and runs it until its gate is shut; returns its seat. A node
 /// that is lost, or behind for good, is crashed and restarted over the same store, which has not failed, with a new machine. The feed notes
 /// each boot.
 ///
@@ -180,7 +181,7 @@ where
     let mut actor = open_actor::<M, K, S>(alloc, fresh, source, keeper)?;
     feed.up(actor.me(), actor.boot());
     for _ in 0..u64::MAX {
-        let cause = match run_boot(mail, &mut actor, gate, feed) {
+        let cause = match run_boot(alloc, mail, &mut actor, gate, feed) {
             Ok(Some(cause)) => cause,
             Ok(None) => return Ok(leave(actor)),
             Err(fault) => {

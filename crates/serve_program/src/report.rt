@@ -8,7 +8,7 @@ ghost use Rattle.serve_feed.specs.Feeds.{HasGiven};
 
 use crate::source::{Boots, Cause};
 use crate::status::{Status, standing_of};
-use actor_run::{Feed, Seen};
+use actor_run::{RoundFeed, RoundSeen};
 use node_actor::{Event, Members};
 use realm_machine::{Act, Say};
 use serve_feed::ClientFeed;
@@ -88,7 +88,7 @@ impl<'a, R> Reporter<'a, R> {
 
 impl<R: Eprint + Clock> Reporter<'_, R> {
     // Reports what is new.
-    fn see(&mut self, seen: &Seen, clients: &ClientFeed<'_>) {
+    fn see(&mut self, seen: &RoundSeen<'_>, clients: &ClientFeed<'_>) {
         if seen.leads && !self.leads {
             let _ = eprintln!(self.rt; "node {} leads", self.node);
         }
@@ -104,8 +104,8 @@ impl<R: Eprint + Clock> Reporter<'_, R> {
     }
 
     // Reports that the node's own start is applied, which was pending until then, or how far it is.
-    fn start(&mut self, seen: &Seen) {
-        if !seen.pending || self.is_told {
+    fn start(&mut self, seen: &RoundSeen<'_>) {
+        if seen.pending == 0 || self.is_told {
             self.serves = true;
             let _ = eprintln!(self.rt; "node {} serves", self.node);
             return;
@@ -129,7 +129,7 @@ impl<R: Eprint + Clock> Reporter<'_, R> {
     }
 
     // Writes the node's status.
-    fn answer(&self, seen: &Seen, clients: &ClientFeed<'_>) {
+    fn answer(&self, seen: &RoundSeen<'_>, clients: &ClientFeed<'_>) {
         let status = Status {
             node: self.node,
             boot: self.boot,
@@ -137,7 +137,7 @@ impl<R: Eprint + Clock> Reporter<'_, R> {
             standing: standing_of(self.node, seen),
             applied: seen.applied,
             floor: seen.floor,
-            is_pending: seen.pending,
+            is_pending: seen.pending > 0,
             waiting: seen.waiting,
             connections: clients.connections(),
             held: clients.held(),
@@ -153,16 +153,16 @@ pub(crate) struct ReportingFeed<'a, R> {
     pub clients: ClientFeed<'a>,
 }
 
-impl<R: Eprint + Clock> Feed<Act, Say> for ReportingFeed<'_, R> {
+impl<R: Eprint + Clock> RoundFeed<Act, Say> for ReportingFeed<'_, R> {
     ghost use Rattle.serve_feed.specs.Feeds.{HasGiven};
 
     ghost saw = { λ feed given got. HasGiven feed.clients given };
 
-    fn next(&mut self, seen: Seen) -> Option<Event<Act>>
+    fn next(&mut self, seen: &RoundSeen<'_>) -> Option<Event<Act>>
         ensures { (given : List (Event Act)) (got : List Say) → HasGiven self.old.clients given
             → HasGiven self.new.clients (given ++ option_to_list result) }
     {
-        self.reporter.see(&seen, &self.clients);
+        self.reporter.see(seen, &self.clients);
         self.clients.next(seen)
     }
 

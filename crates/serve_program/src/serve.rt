@@ -12,7 +12,7 @@ use crate::station::Site;
 use crate::stores::{Stores, find_stray};
 use actor_run::Gate;
 use crossbeam_channel::{Sender, bounded};
-use mail_table::{Office, found};
+use mail_table::{Office, found_for_batches};
 use node_actor::Members;
 use rtrb::{Consumer, Producer, RingBuffer};
 use serve_connections::{Arrival, Door, Lobby, run_porter};
@@ -306,7 +306,7 @@ where
     let lobbies = make_lobbies(alloc, members)?;
     let (sender, receiver) = bounded(alloc, ENDS)?;
     let mut office = Office::new();
-    let Ok((mail, seats)) = found(alloc, &mut office, members) else {
+    let Ok((mail, seats)) = found_for_batches(alloc, &mut office, members) else {
         return Err(ServeFault::Memory);
     };
     let mut porters = Vec::new(alloc);

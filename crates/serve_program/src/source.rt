@@ -1,7 +1,7 @@
 // What a node's thread needs: a source of machines, and a feed that notes boots, and why another one begins.
 ghost use Rattle.std.specs.Prelude.{◌≡◌, [], false, IfOk};
 
-use actor_run::Feed;
+use actor_run::RoundFeed;
 use replica_machine::Machine;
 use std::alloc::{AllocError, Global};
 
@@ -22,7 +22,7 @@ pub(crate) enum Cause {
 }
 
 /// A feed that notes its node's boots.
-pub(crate) trait Boots<B, Y>: Feed<B, Y> {
+pub(crate) trait Boots<B, Y>: RoundFeed<B, Y> {
     /// Notes that the node is up in this boot, the first one of its run: nothing was given or got in it yet.
     fn up(&mut self, node: u8, boot: u64)
         ensures { Self.saw self.new [] [] };

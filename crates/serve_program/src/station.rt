@@ -26,7 +26,7 @@ use std::sync::atomic::{AtomicBool, AtomicU64, Ordering};
 use std::sync::{Arc, Wait};
 use std::time::{Clock, Instant};
 
-/// What all nodes' threads share: the stores, the gate that each turn asks, whether the cluster is still to run, how often the nodes were asked
+/// What all nodes' threads share: the stores, the gate that each round asks, whether the cluster is still to run, how often the nodes were asked
 /// for their status, where each node is woken, the key of its draws, the realm's name, and when the cluster began.
 #[derive(Drop)]
 pub(crate) struct Site<'a, G> {
@@ -40,7 +40,7 @@ pub(crate) struct Site<'a, G> {
     pub began: Option<Instant>,
 }
 
-// The gate of a node's turns, which shuts once the cluster is to end.
+// The gate of a node's rounds, which shuts once the cluster is to end.
 #[derive(Drop)]
 struct ShutGate<'a, R: Wait + Clock, G: Gate> {
     open: &'a AtomicBool,
@@ -141,7 +141,7 @@ impl<'a, C: Cluster> Station<'a, C> {
 }
 
 impl<R: Wait + Clock + Eprint, G: Gate, C: Cluster> Runs<R, G, Left<C>> for Station<'_, C> {
-    // Opens the node over the store that the site names, and turns it until its gate is shut. A node that is lost begins its next boot.
+    // Opens the node over the store that the site names, and runs it until its gate is shut. A node that is lost begins its next boot.
     fn run<'b>(self, rt: &'b R, alloc: Global, site: &'b Site<'b, G>) -> Result<Left<C>, NodeEnd> {
         let node = self.fresh.node();
         let Some(lobby) = site.lobbies.get(usize::from(node).saturating_sub(1)) else {

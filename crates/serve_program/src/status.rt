@@ -2,7 +2,7 @@
 ghost use Rattle.std.specs.Prelude.{◌≡◌};
 ghost use Rattle.serve_program.specs.Status.{standing_of};
 
-use actor_run::Seen;
+use actor_run::RoundSeen;
 use serve_feed::Held;
 use std::fmt;
 use std::fmt::Display;
@@ -21,7 +21,7 @@ pub(crate) enum Standing {
 }
 
 /// Returns whom the node with this number takes for the leader.
-pub(crate) fn standing_of(me: u8, seen: &Seen) -> Standing
+pub(crate) fn standing_of(me: u8, seen: &RoundSeen<'_>) -> Standing
     ensures { result ≡ standing_of me seen.now }
 {
     if seen.leads {

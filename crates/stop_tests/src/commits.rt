@@ -45,6 +45,18 @@ fn each_commit_fails(rt: HostRuntime) {
 }
 
 #[test]
+fn each_commit_of_rounds_fails(rt: HostRuntime) {
+    check_eq!(&rt; failures(&rt, rt.alloc(), false, Course::ByRounds), (5, 0));
+    check_eq!(&rt; failures(&rt, rt.alloc(), true, Course::ByRounds), (5, 0));
+}
+
+#[test]
+fn each_commit_of_rounds_with_cuts_fails(rt: HostRuntime) {
+    check_eq!(&rt; failures(&rt, rt.alloc(), false, Course::CutByRounds), (9, 4));
+    check_eq!(&rt; failures(&rt, rt.alloc(), true, Course::CutByRounds), (9, 4));
+}
+
+#[test]
 fn each_commit_of_cuts_fails(rt: HostRuntime) {
     check_eq!(&rt; failures(&rt, rt.alloc(), false, Course::Cut), (9, 3));
     check_eq!(&rt; failures(&rt, rt.alloc(), true, Course::Cut), (9, 2));

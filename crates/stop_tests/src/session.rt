@@ -6,7 +6,7 @@ ghost use Rattle.test_stands.specs.Fresh.{IsFresh};
 
 use crate::check::Check;
 use crate::kept::{are_same, floor_of, is_all_kept};
-use mail_table::{Mail, NodeSeat, Office, found};
+use mail_table::{Mail, NodeSeat, Office, found, found_for_batches};
 use node_actor::{Entry, Keeper, KeeperFault, Members};
 use paxos_packets::{Body, Rows, Transport};
 use std::alloc::Global;
@@ -39,6 +39,17 @@ pub enum Course {
     /// They go through a session, and node 1 cuts its log. Node 2 begins again over the same store, takes the snapshot of node 1, cuts its
     /// own log, and goes on.
     Cut,
+    /// The same session, at a table for batches, where each turn is a round.
+    ByRounds,
+    /// The same session and cuts by rounds.
+    CutByRounds,
+}
+
+fn goes_by_rounds(course: Course) -> bool {
+    match course {
+        Course::Whole | Course::Cut => false,
+        Course::ByRounds | Course::CutByRounds => true,
+    }
 }
 
 /// Where the store of node 2 stopped: nowhere, as the node began a boot, or in a commit.
@@ -213,6 +224,14 @@ fn begun_again<'a, K: Keeper<Number>>(
 fn has_taken<K: Keeper<Number>>(rt: &impl Abort, two: &Second<'_, K>, heard: Heard) {
     if let Begun::Again(actor) = two {
         check!(rt; heard.fault != 0 || actor.floor() == 4);
+    }
+}
+
+// Node 2, which has begun again, goes two rounds in which nothing comes. So it looks into the box of node 1 first in the round to which both
+// others answer, and is shown the snapshot of node 1 before the entries of node 3, after which it would not take it.
+fn goes_idle<K: Keeper<Number>>(two: &mut Second<'_, K>, second: &mut Heard) {
+    for _ in 0..2u8 {
+        let _ = turn_second(two, second);
     }
 }
 
@@ -419,8 +438,8 @@ fn are_level<K: Keeper<Number>>(
 // two acts; then it takes the snapshot of node 1 at 4, has a boot more, which it cuts, and one more act.
 fn whole_of(course: Course) -> (u64, u64, u64) {
     match course {
-        Course::Whole => (2, 4, 0),
-        Course::Cut => (3, 6, 5),
+        Course::Whole | Course::ByRounds => (2, 4, 0),
+        Course::Cut | Course::CutByRounds => (3, 6, 5),
     }
 }
 
@@ -445,9 +464,12 @@ fn gone<'a, K: Keeper<Number>>(
     let mut heard = NOTHING;
     session(rt, one, &mut two, three, &mut heard);
     match course {
-        Course::Whole => (two, heard),
-        Course::Cut => {
+        Course::Whole | Course::ByRounds => (two, heard),
+        Course::Cut | Course::CutByRounds => {
             let mut two = begun_again(alloc, two, heard);
+            if goes_by_rounds(course) {
+                goes_idle(&mut two, &mut heard);
+            }
             goes_over_cuts(rt, one, &mut two, three, &mut heard);
             (two, heard)
         }
@@ -473,6 +495,10 @@ fn lives<K: Keeper<Number> + Drop, C: Crashes<K>>(
     }
     let (mut two, found) = restarted(rt, alloc, two, crashes, stop);
     check!(rt; stop != Stop::Nowhere || !found.is_new);
+    if goes_by_rounds(course) {
+        let mut idle = NOTHING;
+        goes_idle(&mut two, &mut idle);
+    }
     goes_on(rt, &mut one, &mut two, &mut three, found);
     let two = again(two).expect(rt, "node 2");
     are_level(rt, &one, &two, &three);
@@ -555,6 +581,24 @@ fn live_at<K: Keeper<Number> + Drop, C: Crashes<K>>(
     lives(rt, alloc, one, two, three, crashes, course)
 }
 
+// The same at a table for batches.
+fn live_by_rounds<K: Keeper<Number> + Drop, C: Crashes<K>>(
+    rt: &impl Abort,
+    alloc: Global,
+    keeper: K,
+    crashes: &C,
+    course: Course,
+) -> Life {
+    let members = Members::new(3).expect(rt, "three members");
+    let mut office = Office::new();
+    let Ok((mail, mut seats)) = found_for_batches::<Number>(alloc, &mut office, members) else {
+        panic!(rt; "no room for a table");
+    };
+    live_at(
+        rt, alloc, &mail, &mut seats, members, keeper, crashes, course,
+    )
+}
+
 /// Opens three nodes at a new table, the second with this store, and lets them live so.
 pub fn live<K: Keeper<Number> + Drop, C: Crashes<K>>(
     rt: &impl Abort,
@@ -563,6 +607,9 @@ pub fn live<K: Keeper<Number> + Drop, C: Crashes<K>>(
     crashes: &C,
     course: Course,
 ) -> Life {
+    if goes_by_rounds(course) {
+        return live_by_rounds(rt, alloc, keeper, crashes, course);
+    }
     let members = Members::new(3).expect(rt, "three members");
     let mut office = Office::new();
     let Ok((mail, mut seats)) = found::<Number>(alloc, &mut office, members) else {

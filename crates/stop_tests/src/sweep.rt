@@ -121,3 +121,19 @@ fn the_database_file_of_a_short_log_stops_in_a_session_of_cuts(rt: HostRuntime) 
     let found = sweep(&rt, rt.alloc(), Course::Cut, Which::Database, SHORT);
     check_eq!(&rt; found, [(14, 6, 12, 0, 4); 4]);
 }
+
+// The session without cuts by rounds, in which node 2 makes the same commits as by turns.
+
+#[test]
+fn the_log_stops_by_rounds(rt: HostRuntime) {
+    let found = sweep(&rt, rt.alloc(), Course::ByRounds, Which::Log, LONG);
+    let (lost, kept) = ((23, 5, 26, 0, 0), (23, 5, 26, 6, 0));
+    check_eq!(&rt; found, [lost, kept, lost, kept]);
+}
+
+#[test]
+fn a_short_log_stops_by_rounds(rt: HostRuntime) {
+    let found = sweep(&rt, rt.alloc(), Course::ByRounds, Which::Log, SHORT);
+    let (lost, kept) = ((23, 16, 34, 0, 0), (23, 16, 34, 6, 0));
+    check_eq!(&rt; found, [lost, kept, lost, kept]);
+}

@@ -10,4 +10,4 @@ mod standing;
 pub use closing::{close, close_left, close_log, pop_two, push_two};
 pub use nodes::{Missed, Nodes, Passes, with_nodes};
 pub use seated_actor::{Answer, Begun, Left, SeatedActor, again, count_of, open_actor, told_of};
-pub use standing::{NODES, Plays, Source, with_actors};
+pub use standing::{NODES, Plays, Source, with_actors, with_actors_by_rounds};

@@ -4,10 +4,10 @@ ghost use Rattle.mail_table.specs.Seats.{Owns};
 ghost use Rattle.paxos_node.specs.declared.view.Opened.TheVariants.{Never};
 ghost use Rattle.paxos_packets.specs.Members.{IsMember};
 
-use actor_run::{Feed, Gate, run_node};
+use actor_run::{Feed, Gate, RoundFeed, run_node, run_rounds};
 use mail_table::{Mail, NodeSeat};
 use node_actor::{
-    Actor, ActorFault, Ballot, Entry, Heard, Keeper, Machine, Members, NodeSet, Post, Rows,
+    Actor, ActorFault, Ballot, Entry, Heard, Hearing, Keeper, Machine, Members, NodeSet, Post, Rows,
 };
 use replica_machine::AppliedLog;
 use std::alloc::Global;
@@ -24,6 +24,7 @@ pub type Answer<Y> = Result<Vec<Y>, ActorFault<Y>>;
 /// An actor, and the table that owns its seat.
 #[derive(Drop)]
 pub struct SeatedActor<'a, M: Machine, K: Keeper<M::Body>> {
+    alloc: Global,
     mail: &'a Mail<M::Body>,
     actor: Actor<M, K>,
     ghost owned: { Owns mail.now actor.seat },
@@ -54,7 +55,7 @@ pub fn open_actor<'a, M: Machine, K: Keeper<M::Body>>(
 {
     let me = seat.node();
     match Actor::open(alloc, mail, seat, me, members, machine, keeper) {
-        Ok(actor) => Begun::Again(SeatedActor { mail, actor }),
+        Ok(actor) => Begun::Again(SeatedActor { alloc, mail, actor }),
         Err((fault, post, keeper)) => {
             let number = fault.number();
             drop(fault);
@@ -92,9 +93,31 @@ impl<'a, M: Machine, K: Keeper<M::Body>> SeatedActor<'a, M, K> {
         self.actor.take(self.mail, number, body)
     }
 
-    /// Takes a turn.
+    /// Takes a turn, or at a table for batches a round without events of the node's own.
     pub fn turn(&mut self) -> Answer<M::Say> {
-        self.actor.turn(self.mail)
+        if self.mail.most() == 1 {
+            return self.actor.turn(self.mail);
+        }
+        self.round()
+    }
+
+    // Takes a round without events of the node's own.
+    fn round(&mut self) -> Answer<M::Say> {
+        let mut says = self.actor.silence();
+        match self.actor.round(self.mail, Vec::new(self.alloc), &mut says) {
+            Ok(held) => {
+                drop(held);
+                Ok(says)
+            },
+            Err(ActorFault::LostHere(none)) => {
+                drop(none);
+                Err(ActorFault::LostHere(says))
+            },
+            Err(fault) => {
+                drop(says);
+                Err(fault)
+            },
+        }
     }
 
     /// Lets time pass.
@@ -112,12 +135,36 @@ impl<'a, M: Machine, K: Keeper<M::Body>> SeatedActor<'a, M, K> {
         self.actor.cut(self.mail)
     }
 
-    /// Lets the actor turn for as long as the gate lets it pass. Returns whether no fault ended it.
+    /// Lets the actor turn for as long as the gate lets it pass. Returns whether no fault ended it. At a table for batches it does nothing, and
+    /// returns `false`.
     pub fn run<G: Gate, F: Feed<M::Body, M::Say>>(&mut self, gate: &G, feed: &mut F) -> bool {
+        if self.mail.most() != 1 {
+            return false;
+        }
         let done = run_node(self.mail, &mut self.actor, gate, feed);
         let good = done.is_ok();
         drop(done);
         good
+    }
+
+    /// Lets the actor go by rounds for as long as the gate lets it pass. Returns the number of the fault that ended it, 0 if none did.
+    pub fn run_rounds<G: Gate, F: RoundFeed<M::Body, M::Say>>(
+        &mut self,
+        gate: &G,
+        feed: &mut F,
+    ) -> u8 {
+        let done = run_rounds(self.alloc, self.mail, &mut self.actor, gate, feed);
+        let number = match &done {
+            Ok(()) => 0,
+            Err(fault) => fault.number(),
+        };
+        drop(done);
+        number
+    }
+
+    /// Returns the node's number.
+    pub fn me(&self) -> u8 {
+        self.actor.me()
     }
 
     /// Returns the node's log above its floor.
@@ -133,6 +180,11 @@ impl<'a, M: Machine, K: Keeper<M::Body>> SeatedActor<'a, M, K> {
     /// Returns the floor, up to which the node's snapshot gives its log.
     pub fn floor(&self) -> u64 {
         self.actor.floor()
+    }
+
+    /// Returns how many entries of the node wait for a slot.
+    pub fn pending_entries(&self) -> usize {
+        self.actor.pending_entries()
     }
 
     /// Returns whether entries of the node wait for a slot.
@@ -155,7 +207,12 @@ impl<'a, M: Machine, K: Keeper<M::Body>> SeatedActor<'a, M, K> {
         self.actor.heard()
     }
 
-    /// Returns the peers to which its last turn posted.
+    /// Returns from which members the packets of its last round came, and what each showed, in order.
+    pub fn came(&self) -> &[Hearing] {
+        self.actor.came()
+    }
+
+    /// Returns the peers to which its last turn or round posted.
     pub fn posted(&self) -> NodeSet {
         self.actor.posted()
     }
@@ -165,12 +222,12 @@ impl<'a, M: Machine, K: Keeper<M::Body>> SeatedActor<'a, M, K> {
         self.actor.open_slots()
     }
 
-    /// Returns whether its last turn treated a packet.
+    /// Returns whether its last turn or round fetched a packet.
     pub fn has_treated(&self) -> bool {
-        self.from().is_some()
+        self.from().is_some() || !self.came().is_empty()
     }
 
-    /// Returns whether its last turn posted a packet.
+    /// Returns whether its last turn or round posted a packet.
     pub fn has_posted(&self) -> bool {
         let posted = self.actor.posted();
         let mut any = false;
@@ -180,14 +237,14 @@ impl<'a, M: Machine, K: Keeper<M::Body>> SeatedActor<'a, M, K> {
         any
     }
 
-    /// Returns whether its last turn posted a packet, or treated one.
+    /// Returns whether its last turn or round posted a packet, or fetched one.
     pub fn has_moved(&self) -> bool {
         self.has_treated() || self.has_posted()
     }
 
     /// Takes the node down, and returns what is left of it, and its store.
     pub fn crash(self) -> (Left<'a, M>, K) {
-        let SeatedActor { mail, actor } = self;
+        let SeatedActor { mail, actor, .. } = self;
         let (post, keeper) = actor.crash();
         (Left { mail, post }, keeper)
     }
@@ -231,7 +288,7 @@ impl<'a, M: Machine> Left<'a, M> {
     {
         let Left { mail, post } = self;
         match Actor::restart(alloc, mail, post, machine, keeper) {
-            Ok(actor) => Begun::Again(SeatedActor { mail, actor }),
+            Ok(actor) => Begun::Again(SeatedActor { alloc, mail, actor }),
             Err((fault, post, keeper)) => {
                 let number = fault.number();
                 drop(fault);

@@ -4,7 +4,7 @@ ghost use Rattle.test_stands.specs.Fresh.{IsFresh};
 
 use crate::closing::push;
 use crate::seated_actor::{SeatedActor, again, open_actor};
-use mail_table::{Mail, NodeSeat, Office, found};
+use mail_table::{Mail, NodeSeat, Office, found, found_for_batches};
 use node_actor::{Keeper, Machine, Members};
 use std::alloc::Global;
 
@@ -79,6 +79,40 @@ fn played<M: Machine, K: Keeper<M::Body> + Drop, S: Source<M, K>, P: Plays<M, K>
     end
 }
 
+// Returns what comes of it at this table, which is dropped; `None` if an actor could not be opened.
+fn played_at<M: Machine, K: Keeper<M::Body> + Drop, S: Source<M, K>, P: Plays<M, K>>(
+    alloc: Global,
+    mail: Mail<M::Body>,
+    seats: Vec<NodeSeat<M::Body>>,
+    members: Members,
+    source: &S,
+    plays: &mut P,
+) -> Option<P::End>
+    requires fresh { All (IsFresh mail) seats.items }
+    requires members { members ≡ mail.members }
+{
+    let mut seats = seats;
+    let end = played(alloc, &mail, &mut seats, members, source, plays);
+    drop(seats);
+    drop(mail);
+    end
+}
+
+/// Does what `with_actors` does at a table for batches, where each turn is a round.
+pub fn with_actors_by_rounds<
+    M: Machine,
+    K: Keeper<M::Body> + Drop,
+    S: Source<M, K>,
+    P: Plays<M, K>,
+>(alloc: Global, source: &S, plays: &mut P) -> Option<P::End> {
+    let members = Members::new(NODES)?;
+    let mut office = Office::new();
+    let Ok((mail, seats)) = found_for_batches::<M::Body>(alloc, &mut office, members) else {
+        return None;
+    };
+    played_at(alloc, mail, seats, members, source, plays)
+}
+
 /// Founds a table of three nodes, opens an actor at each seat, with a machine and a store of this source, and lends them to what is done
 /// with them. Returns what comes of it; `None` if an actor could not be opened.
 pub fn with_actors<M: Machine, K: Keeper<M::Body> + Drop, S: Source<M, K>, P: Plays<M, K>>(
@@ -88,11 +122,8 @@ pub fn with_actors<M: Machine, K: Keeper<M::Body> + Drop, S: Source<M, K>, P: Pl
 ) -> Option<P::End> {
     let members = Members::new(NODES)?;
     let mut office = Office::new();
-    let Ok((mail, mut seats)) = found::<M::Body>(alloc, &mut office, members) else {
+    let Ok((mail, seats)) = found::<M::Body>(alloc, &mut office, members) else {
         return None;
     };
-    let end = played(alloc, &mail, &mut seats, members, source, plays);
-    drop(seats);
-    drop(mail);
-    end
+    played_at(alloc, mail, seats, members, source, plays)
 }

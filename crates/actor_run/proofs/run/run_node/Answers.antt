@@ -1,6 +1,3 @@
-use Rattle.std.proofs.Common.{List}
-use Rattle.paxos_node.specs.declared.event.Event.{Event}
-use Rattle.node_actor.specs.Views.{View}
 use Rattle.actor_run.specs.Runs.{Outset}
 use Rattle.actor_run.proofs.Making.{sets_out}
 use Rattle.actor_run.proofs.run.run_node.Goals as goal

@@ -8,4 +8,4 @@ abbrev pub invariant-loop-below : goal.invariant-loop-below
 invariant-loop-below g l =
     ((m : ℕ) × (l.below + m ≡ l.nodes) × (l.founder.me ≡ (rising l.below m, []))) × (l.founder.table_id ≡ l.table.shared.table_id)
     × (l.nodes ≤ vec_capacity l.seats)
-    × (l.seats.items ≡ new_seats (record { office = l.mark.seen.book; table = l.mark.number; members = l.nodes }) l.below)
+    × (l.seats.items ≡ new_seats (record { office = l.mark.seen.book; table = l.mark.number; members = l.nodes; most = l.most }) l.below)

@@ -12,7 +12,7 @@ join_seat-requires g c =
       search rules,
       search rules,
       some_words,
-      joins g.B.Body.same c.args.table.now.shared.key c.loop-next.gatherer.id c.loop-next.gatherer.me.0 c.take_token-seat.result.id
+      joins g.B.Body.same c.args.table.now.shared.key.nodes c.args.table.now.shared.key.most c.loop-next.gatherer.id c.loop-next.gatherer.me.0 c.take_token-seat.result.id
           c.take_token-seat.result.me.0,
     )
 

@@ -7,10 +7,10 @@ use Rattle.mail_table.proofs.steps.advance_as.Goals as goal
 pub fetch_add-requires : goal.fetch_add-requires
 fetch_add-requires g c = (
   c.requires.table,
-  word_low c.args.table.now.shared.key c.args.table.now.shared.table_id.words (only c.args.seat.now.me.0).me c.args.at
+  word_low c.args.table.now.shared.key.nodes c.args.table.now.shared.table_id.words (only c.args.seat.now.me.0).me c.args.at
       c.requires.sized.words c.requires.member c.requires.word,
-  advances_at g.B.Body.same (record { reflexive = g.met.B.Body.reflexive; sound = g.met.B.Body.sound }) c.args.table.now.shared.key
-      c.args.table.now.shared.table_id.slots c.args.seat.now.id c.args.at
+  advances_at g.B.Body.same (record { reflexive = g.met.B.Body.reflexive; sound = g.met.B.Body.sound }) c.args.table.now.shared.key.nodes
+      c.args.table.now.shared.key.most c.args.table.now.shared.table_id.slots c.args.seat.now.id c.args.at
       c.args.seat.now.me c.args.outcome.now g.J.Telling.node g.J.Telling.packets c.requires.alone c.requires.member c.requires.word
       c.requires.room c.requires.follows c.requires.node c.requires.packets,
 )

@@ -1,6 +1,6 @@
 use Rattle.std.proofs.Common.{◌≡◌, ◌<◌, ◌+◌, ◌*◌, ◌∙◌, ℕ, List, [], ◌∷◌, rules, sym, ap, subst, arith, Some, None}
 use Rattle.mail_table.proofs.Places.{box_below}
-use Rattle.mail_table.proofs.Posting.{claims_at, delivers_at, post_low}
+use Rattle.mail_table.proofs.Posting.{claims_at, delivers_at, seek_low}
 use Rattle.mail_table.specs.Views.{only, claiming}
 use Rattle.mail_table.specs.Boxes.{sits}
 use Rattle.mail_table.proofs.steps.claim_in.Goals as goal
@@ -8,19 +8,19 @@ use Rattle.mail_table.proofs.steps.claim_in.Goals as goal
 pub compare_exchange-found-requires : goal.compare_exchange-found-requires
 compare_exchange-found-requires g c = (
   c.requires.table,
-  post_low c.args.table.now.shared.key c.args.table.now.shared.table_id.words (only c.args.seat.now.me.0) c.args.at c.args.packet
-      c.requires.sized.words c.requires.may,
-  claims_at g.B.Body.same c.args.table.now.shared.key c.args.table.now.shared.table_id.slots c.args.seat.now.id c.args.at
-      c.args.seat.now.me c.args.packet c.requires.alone c.requires.may,
+  seek_low c.args.table.now.shared.key.nodes c.args.table.now.shared.table_id.words (only c.args.seat.now.me.0) c.args.at
+      c.requires.sized.words c.requires.may.seek,
+  claims_at g.B.Body.same c.args.table.now.shared.key.nodes c.args.table.now.shared.key.most c.args.table.now.shared.table_id.slots c.args.seat.now.id c.args.at
+      c.args.seat.now.me c.args.batch c.requires.alone c.requires.may,
 )
 
 pub store-requires : goal.store-requires
 store-requires g c = (
   search rules,
-  post_low c.args.table.now.shared.key c.args.table.now.shared.table_id.words (only c.args.seat.now.me.0) c.args.at c.args.packet
-      c.requires.sized.words c.requires.may,
-  delivers_at g.B.Body.same c.args.table.now.shared.key c.args.table.now.shared.table_id.slots c.exchange.new.seat.id c.args.at (only
-      c.args.seat.now.me.0) c.exchange.new.seat.me c.args.packet (search rules) c.requires.may,
+  seek_low c.args.table.now.shared.key.nodes c.args.table.now.shared.table_id.words (only c.args.seat.now.me.0) c.args.at
+      c.requires.sized.words c.requires.may.seek,
+  delivers_at g.B.Body.same c.args.table.now.shared.key.nodes c.args.table.now.shared.key.most c.args.table.now.shared.table_id.slots c.exchange.new.seat.id c.args.at (only
+      c.args.seat.now.me.0) c.exchange.new.seat.me c.args.batch (search rules) c.requires.may,
 )
 
 pub returns-then-found-ne-EMPTY-clause-posted : goal.returns-then-found-ne-EMPTY-clause-posted

@@ -1,5 +1,5 @@
 use Rattle.std.proofs.Common.{◌≡◌, []}
-use Rattle.mail_table.proofs.Posting.{post_low, seeks_at, seat_stays}
+use Rattle.mail_table.proofs.Posting.{seek_low, seeks_at, seat_stays}
 use Rattle.mail_table.specs.Boxes.{sits}
 use Rattle.mail_table.specs.Views.{only, lost}
 use Rattle.mail_table.proofs.steps.is_empty.Goals as goal
@@ -7,11 +7,11 @@ use Rattle.mail_table.proofs.steps.is_empty.Goals as goal
 pub load-requires : goal.load-requires
 load-requires g c = (
   c.requires.table,
-  post_low c.args.table.now.shared.key c.args.table.now.shared.table_id.words (only c.args.seat.now.me.0) c.args.at c.args.packet.now
+  seek_low c.args.table.now.shared.key.nodes c.args.table.now.shared.table_id.words (only c.args.seat.now.me.0) c.args.at
       c.requires.sized.words c.requires.may,
-  seeks_at g.B.Body.same c.args.table.now.shared.key c.args.table.now.shared.table_id.slots 0 c.args.seat.now.id c.args.at
-      c.args.seat.now.me (only c.args.seat.now.me.0).me c.args.packet.now.addressee c.requires.alone c.requires.may.from c.requires.may.to
-      c.requires.may.box c.requires.may.from,
+  seeks_at g.B.Body.same c.args.table.now.shared.key.nodes c.args.table.now.shared.key.most c.args.table.now.shared.table_id.slots 0
+      c.args.seat.now.id c.args.at c.args.seat.now.me (only c.args.seat.now.me.0).me c.requires.may.to c.requires.alone c.requires.may.from
+      c.requires.may.other c.requires.may.box c.requires.may.from,
 )
 
 pub returns-clause-found : goal.returns-clause-found

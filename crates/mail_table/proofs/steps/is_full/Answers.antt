@@ -8,9 +8,9 @@ use Rattle.mail_table.proofs.steps.is_full.Goals as goal
 pub load-requires : goal.load-requires
 load-requires g c = (
   c.requires.table,
-  fetch_low c.args.table.now.shared.key c.args.table.now.shared.table_id.words (only c.args.seat.now.me.0) c.args.at
+  fetch_low c.args.table.now.shared.key.nodes c.args.table.now.shared.table_id.words (only c.args.seat.now.me.0) c.args.at
       c.requires.sized.words c.requires.may,
-  seeks_at g.B.Body.same c.args.table.now.shared.key c.args.table.now.shared.table_id.slots 2 c.args.seat.now.id c.args.at
+  seeks_at g.B.Body.same c.args.table.now.shared.key.nodes c.args.table.now.shared.key.most c.args.table.now.shared.table_id.slots 2 c.args.seat.now.id c.args.at
       c.args.seat.now.me c.requires.may.from (only c.args.seat.now.me.0).me c.requires.alone c.requires.may.other c.requires.may.to
       c.requires.may.box c.requires.may.to,
 )

@@ -8,10 +8,10 @@ use Rattle.mail_table.proofs.steps.renew_as.Goals as goal
 pub fetch_add-requires : goal.fetch_add-requires
 fetch_add-requires g c = (
   c.requires.table,
-  word_low c.args.table.now.shared.key c.args.table.now.shared.table_id.words (only c.args.seat.now.me.0).me c.args.at
+  word_low c.args.table.now.shared.key.nodes c.args.table.now.shared.table_id.words (only c.args.seat.now.me.0).me c.args.at
       c.requires.sized.words c.requires.member c.requires.word,
-  renews_at g.B.Body.same (record { reflexive = g.met.B.Body.reflexive; sound = g.met.B.Body.sound }) c.args.table.now.shared.key
-      c.args.table.now.shared.table_id.slots c.args.seat.now.id c.args.at
+  renews_at g.B.Body.same (record { reflexive = g.met.B.Body.reflexive; sound = g.met.B.Body.sound }) c.args.table.now.shared.key.nodes
+      c.args.table.now.shared.key.most c.args.table.now.shared.table_id.slots c.args.seat.now.id c.args.at
       c.args.seat.now.me g.J.Beginning.rows c.requires.alone c.requires.member c.requires.word c.requires.room
       (subst (λ r. MayRenew (only c.args.seat.now.me.0).seen.opened (only c.args.seat.now.me.0).seen.node r) (sym c.requires.rows)
       c.requires.may),

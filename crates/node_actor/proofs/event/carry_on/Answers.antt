@@ -1,5 +1,5 @@
 -- The machine is made of the snapshot that the node takes.
-use Rattle.std.proofs.Common.{◌≡◌, Err, ap, refl, rules}
+use Rattle.std.proofs.Common.{◌≡◌, Err, ap, refl, rules, arith}
 use Rattle.replica_machine.specs.declared.fault.LoadFault.TheVariants as load
 use Rattle.actor_parts.specs.Snapshots.{unboxed}
 use Rattle.actor_parts.proofs.Basing.{base_made}
@@ -45,3 +45,9 @@ returns-in-Err-Memory-clause-did g c =
     rw c.stop.ensures.spoiled (makes_stop c.stop.result c.stop.ensures.fault refl (ended_before g.M.Machine.steps g.M.Machine.content
     g.K.Keeper.holds g.K.Keeper.finds g.K.Keeper.failures g.K.Keeper.is_failed c.args.parts.now c.args.seat.now
     (c.requires.sound.serves c.requires.serving)))
+
+pub returns-in-Err-Damaged-clause-counts : goal.returns-in-Err-Damaged-clause-counts
+returns-in-Err-Damaged-clause-counts g c = rw c.spoil.ensures (omega arith)
+
+pub returns-in-Err-Memory-clause-counts : goal.returns-in-Err-Memory-clause-counts
+returns-in-Err-Memory-clause-counts g c = rw c.stop.ensures.spoiled (omega arith)

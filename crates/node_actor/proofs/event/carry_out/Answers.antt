@@ -1,4 +1,4 @@
-use Rattle.std.proofs.Common.{◌≡◌, true, false, ap, sym, subst, ◌∙◌, rules}
+use Rattle.std.proofs.Common.{◌≡◌, ◌≤◌, true, false, ap, sym, subst, ◌∙◌, rules, arith}
 use Rattle.replica_machine.specs.Log.{LogState}
 use Rattle.paxos_node.specs.Adopting.{Fits}
 use Rattle.actor_parts.specs.Snapshots.{base_log, unboxed}
@@ -185,3 +185,22 @@ returns-in-Ok-commit-clause-did g c =
     g.M.Body.Body.same base c.args.outcome c.args.parts.now c.go_from.new.self c.take_over.new.self c.args.seat.now c.step.new.seat
     c.step.ensures.advanced may
     c.requires.sound serving is_ready c.requires.serving c.take_over.result c.take_over.ensures.follows
+
+-- how often the store failed
+
+pub returns-then-not-may_advance-clause-counts : goal.returns-then-not-may_advance-clause-counts
+returns-then-not-may_advance-clause-counts g c = rw c.spoil.ensures (omega arith)
+
+pub returns-in_default-clause-counts : goal.returns-in_default-clause-counts
+returns-in_default-clause-counts g c = rw (c.spoil-in_default.ensures, c.make_room.ensures.rest.keeper) (omega arith)
+
+pub returns-in-Err-clause-counts : goal.returns-in-Err-clause-counts
+returns-in-Err-clause-counts g c =
+    rw c.spoil_at.ensures (subst (λ k. g.K.Keeper.failures k ≤ g.K.Keeper.failures c.commit.new.self.keeper) c.make_room.ensures.rest.keeper
+    c.commit.ensures.counts)
+
+pub returns-in-Ok-commit-clause-counts : goal.returns-in-Ok-commit-clause-counts
+returns-in-Ok-commit-clause-counts g c =
+    let same = c.take_over.ensures.keeper ∙ c.go_from.ensures.rest.keeper in
+    subst (λ k. g.K.Keeper.failures c.args.parts.now.keeper ≤ g.K.Keeper.failures k) (sym same)
+    (subst (λ k. g.K.Keeper.failures k ≤ g.K.Keeper.failures c.commit.new.self.keeper) c.make_room.ensures.rest.keeper c.commit.ensures.counts)

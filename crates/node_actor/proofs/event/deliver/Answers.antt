@@ -1,4 +1,4 @@
-use Rattle.std.proofs.Common.{◌≡◌, true, false, Some, None, sym, ◌∙◌, refl, rules}
+use Rattle.std.proofs.Common.{◌≡◌, ◌∷◌, [], true, false, Some, None, sym, ◌∙◌, refl, rules}
 use Rattle.paxos_node.specs.declared.event.Event.TheVariants.{Deliver}
 use Rattle.node_actor.proofs.Viewing.{acts_by, none_in, event_in, addressed, plans_own}
 use Rattle.node_actor.proofs.event.deliver.Goals as goal
@@ -19,4 +19,4 @@ pub returns-clause-acts : goal.returns-clause-acts
 returns-clause-acts g c =
     let on : c.is_for.result ≡ true = search rules in
     acts_by _ _ _ _ _ _ _ _ (Some (Deliver c.args.packet)) c.args.parts.now c.args.seat.now _ c.make_event-done.result
-    (event_in _ _ _ c.args.parts.now c.args.packet c.requires.sound (sym c.is_for.ensures ∙ on)) c.make_event-done.ensures.acts
+    (event_in _ _ _ c.args.parts.now c.args.packet c.requires.sound (sym c.is_for.ensures ∙ on)) (λ v r. c.make_event-done.ensures.acts (c.args.packet ∷ []) v r)

@@ -1,4 +1,4 @@
-use Rattle.std.proofs.Common.{◌≡◌, ℕ, false, Option, Some, None, sym, ap, subst, ◌∙◌, refl}
+use Rattle.std.proofs.Common.{◌≡◌, [], ℕ, false, Option, Some, None, sym, ap, subst, ◌∙◌, refl}
 use Rattle.paxos_packets.specs.Members.{IsMember}
 use Rattle.paxos_packets.specs.declared.packet.Packet.{Packet}
 use Rattle.mail_table.specs.Seats.{Seated}
@@ -89,16 +89,16 @@ returns-in-None-clause-turns g c =
     c.fetch_round.new.seat.part)
     members c.in-None.ensures.fetches in
     let fresh : c.send_waiting-posted.new.parts.spoiled ≡ false = c.send_waiting-posted.ensures.posts.beside.only.spoiled ∙ c.requires.serving in
-    turns g.M.Body.Body.same g.M.Machine.steps g.M.Machine.content g.M.Machine.loaded g.K.Keeper.holds
+    rw c.note.ensures (turns g.M.Body.Body.same g.M.Machine.steps g.M.Machine.content g.M.Machine.loaded g.K.Keeper.holds
     g.K.Keeper.finds g.K.Keeper.failures c.args.last.now
-    (record { from = None; heard = None; posted = c.send_waiting-posted.result })
+    (record { from = None; heard = None; posted = c.send_waiting-posted.result; came = [] })
     c.args.parts.now c.send_waiting-posted.new.parts c.send_waiting-posted.new.parts c.args.seat.now
     c.send_waiting-posted.new.seat
     c.fetch_round.new.seat c.fetch_round.new.seat c.send_waiting-posted.ensures.seated c.send_waiting-posted.ensures.posts
     (c.send_waiting-posted.ensures.posts.beside.me ∙ c.requires.seated.me)
     (ap (λ (z : Seated g.row.M-Body.Denot). z.members) c.send_waiting-posted.ensures.posts.beside.table ∙ c.requires.seated.members)
     c.args.first.now c.requires.first got c.fetch_round.ensures.table fetches c.pass.result fresh
-    (stays_there c.fetch_round.new.seat) (refl, refl) c.pass.ensures.acts
+    (stays_there c.fetch_round.new.seat) (refl, refl) c.pass.ensures.acts)
 
 pub returns-in-Some-clause-turns : goal.returns-in-Some-clause-turns
 returns-in-Some-clause-turns g c =
@@ -113,13 +113,13 @@ returns-in-Some-clause-turns g c =
     c.fetch_round.new.seat.part)
     members c.in-Some.ensures.fetches in
     let fresh : c.send_waiting-posted.new.parts.spoiled ≡ false = c.send_waiting-posted.ensures.posts.beside.only.spoiled ∙ c.requires.serving in
-    turns g.M.Body.Body.same g.M.Machine.steps g.M.Machine.content g.M.Machine.loaded g.K.Keeper.holds
+    rw c.note-in-Some.ensures (turns g.M.Body.Body.same g.M.Machine.steps g.M.Machine.content g.M.Machine.loaded g.K.Keeper.holds
     g.K.Keeper.finds g.K.Keeper.failures c.args.last.now
-    (record { from = Some c.in-Some.from; heard = Some c.heard_in-heard.result; posted = c.send_waiting-posted.result })
+    (record { from = Some c.in-Some.from; heard = Some c.heard_in-heard.result; posted = c.send_waiting-posted.result; came = [] })
     c.args.parts.now c.send_waiting-posted.new.parts c.deliver.new.parts c.args.seat.now
     c.send_waiting-posted.new.seat
     c.fetch_round.new.seat c.deliver.new.seat c.send_waiting-posted.ensures.seated c.send_waiting-posted.ensures.posts
     (c.send_waiting-posted.ensures.posts.beside.me ∙ c.requires.seated.me)
     (ap (λ (z : Seated g.row.M-Body.Denot). z.members) c.send_waiting-posted.ensures.posts.beside.table ∙ c.requires.seated.members)
     c.args.first.now c.requires.first got c.fetch_round.ensures.table fetches c.deliver.result fresh c.deliver.ensures.stays
-    (refl, ap Some c.heard_in-heard.ensures) c.deliver.ensures.acts
+    (refl, ap Some c.heard_in-heard.ensures) c.deliver.ensures.acts)

@@ -5,6 +5,6 @@ use Rattle.mail_table.proofs.mail.Mail.advance.Given as goal
 abbrev pub ghosts-advance_as : goal.ghosts-advance_as
 ghosts-advance_as g a =
     record {
-      node = adopted (only a.seat.now.me.0).me a.table.now.shared.key a.outcome.now (only a.seat.now.me.0).seen.node;
+      node = adopted (only a.seat.now.me.0).me a.table.now.shared.key.nodes a.outcome.now (only a.seat.now.me.0).seen.node;
       packets = a.outcome.now.packets;
     }

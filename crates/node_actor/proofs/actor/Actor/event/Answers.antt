@@ -2,6 +2,7 @@ use Rattle.std.proofs.Common.{◌≡◌, true, Some, refl, subst, sym, ap}
 use Rattle.std.specs.Prelude.{option_to_list}
 use Rattle.node_actor.specs.Actor.{Acting, acting}
 use Rattle.node_actor.specs.Calls.{is_own}
+use Rattle.node_actor.specs.Views.{received_by}
 use Rattle.node_actor.proofs.Viewing.{plans_event, owned_event, acts_seen}
 use Rattle.node_actor.proofs.Bringing.{own_is_other}
 use Rattle.node_actor.proofs.actor.Actor.event.Goals as goal
@@ -22,4 +23,5 @@ returns-clause-acts g c =
     c.requires.own in
     acts_seen _ _ _ _ _ _ _ (λ me members. Some c.args.event.now) (Some c.args.event.now) c.self.inside.last c.self.inside.parts
     c.self.inside.seat _ (acting c.make_event.new.parts c.make_event.new.seat) _ refl
-    (ap option_to_list (owned_event c.self.inside.parts.node.me c.args.event.now own).2) c.self.view_is c.make_event.ensures.acts
+    (ap option_to_list (owned_event c.self.inside.parts.node.me c.args.event.now own).2) c.self.view_is
+    (λ v r. c.make_event.ensures.acts (received_by (Some c.args.event.now)) v r)
