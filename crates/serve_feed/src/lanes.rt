@@ -21,9 +21,6 @@ use wamp_message_types::Read;
 /// How many lanes are looked at for one act, at most.
 const MOST_LOOKS: u16 = 512;
 
-/// How many lanes are looked at before a round, at most, while no act may be given.
-const LOOKS_ASIDE: u8 = 8;
-
 // The connections of a node, by ascending number of their transports.
 #[derive(Drop)]
 pub(crate) struct Lanes {
@@ -184,12 +181,12 @@ impl Lanes {
         }
     }
 
-    // Does what wants no act, at some lanes: answers the PINGs that come next, and removes each lane of which nothing was given and whose client
-    // is gone.
-    pub fn tend(&mut self, lobby: &Lobby)
+    // Does what wants no act, with so many looks at lanes at most: answers the PINGs that come next, and removes each lane of which nothing was
+    // given and whose client is gone.
+    pub fn tend(&mut self, lobby: &Lobby, looks: u8)
         ensures tells { (given : List (ℕ × Act)) → Tells self.old.sources given → Tells self.new.sources given }
     {
-        for _ in 0..LOOKS_ASIDE {
+        for _ in 0..looks {
             if !self.step_aside(lobby) {
                 return;
             }
