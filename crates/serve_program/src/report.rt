@@ -137,7 +137,7 @@ impl<R: Eprint + Clock> Reporter<'_, R> {
             standing: standing_of(self.node, seen),
             applied: seen.applied,
             floor: seen.floor,
-            is_pending: seen.pending > 0,
+            pending: seen.pending,
             waiting: seen.waiting,
             connections: clients.connections(),
             held: clients.held(),

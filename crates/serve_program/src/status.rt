@@ -54,7 +54,7 @@ pub(crate) struct Status {
     pub standing: Standing,
     pub applied: u64,
     pub floor: u64,
-    pub is_pending: bool,
+    pub pending: usize,
     pub waiting: [u16; 7],
     pub connections: usize,
     pub held: Option<Held>,
@@ -65,7 +65,7 @@ fn cause_of(held: Held) -> &'static str {
     match held {
         Held::Peer => "another node is behind",
         Held::UnderWay => "as many are under way as may be",
-        Held::Commits => "a commit takes long",
+        Held::Commits => "as many were given as a round may have",
     }
 }
 
@@ -77,9 +77,9 @@ impl Display for Status {
             standing,
             applied,
             floor,
+            pending,
             ..
         } = self;
-        let pending = if self.is_pending { "some" } else { "none" };
         write!(
             f,
             "node {node}: boot {boot}, {standing}, {applied} entries applied, {floor} of them in its snapshot, {pending} pending, packets wait"
