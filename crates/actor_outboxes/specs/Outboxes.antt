@@ -115,7 +115,7 @@ pub record Leaves {B : Type 0} (p : Packet B) (old new : Waiting B) : Type 0 whe
   pub stamped : first_stamp (box_of p.addressee old.boxes) ≡ Some stamp
   pub oldest : (k t : ℕ) → first_stamp (box_of k old.boxes) ≡ Some t → stamp ≤ t
 
--- of packets that go together a Forward gives way to a later one, which says what it said
+-- of packets that go together a Forward gives way to a later one, which has what is still pending of it
 
 abbrev pub is_forward_in : {B : Type 0} → Kind B → Bool
 is_forward_in (Forward entries) = true
@@ -128,7 +128,8 @@ abbrev pub due_of : {B : Type 0} → List (Packet B) → List (Packet B)
 due_of [] = []
 due_of (p ∷ ps) = (if is_forward p && list_any is_forward ps then [] else p ∷ []) ++ due_of ps
 
--- the oldest packets for a node wait no longer, of which these are due: at least one, and so many at most. So more room is left than they take
+-- the oldest packets for a node wait no longer, of which these are due: at least one, and at most `most`. At least as much room is left as they
+-- take
 pub record ManyTaken {B : Type 0} (k most : ℕ) (due : List (Packet B)) (old new : Waiting B) : Type 0 where
   pub peer : IsPeer old.me old.members k
   pub addressed : All (λ p. p.addressee ≡ k) due

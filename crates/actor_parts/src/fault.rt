@@ -18,7 +18,8 @@ pub enum ActorFault<Y> {
     Keeper(KeeperFault),
     /// Another entry was learned in a slot.
     Disagree,
-    /// The node has applied the entry that it is lost in its present boot, and is down; these are all sayings of the call.
+    /// The node has applied the entry that it is lost in its present boot, and is down; these are all sayings of
+    /// the call, but for a round's, which are in its own list.
     LostHere(Vec<Y>),
     /// The node's word at the table has counted all events that it can.
     Worn,

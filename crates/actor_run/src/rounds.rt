@@ -85,7 +85,7 @@ fn cut<M: Machine, K: Keeper<M::Body>, F: RoundFeed<M::Body, M::Say>>(
     }
 }
 
-// Puts an event that the feed gave behind the others of the round to come; there must be room for it. A Cut is made at once; an event that is not
+// Puts an event that the feed gave after the others of the round to come; there must be room for it. A Cut is made at once; an event that is not
 // of this node is passed over.
 fn take_in<M: Machine, K: Keeper<M::Body>, F: RoundFeed<M::Body, M::Say>>(
     mail: &Mail<M::Body>,
@@ -122,8 +122,8 @@ fn take_in<M: Machine, K: Keeper<M::Body>, F: RoundFeed<M::Body, M::Say>>(
     Ok(())
 }
 
-// Puts events of the feed behind those that are held back, as many as a round has room for. A Cut is made at once. Memory for all of them is taken
-// before the feed is asked.
+// Puts events of the feed after those that are held back, as many as a round has room for. A Cut is made at once. Memory for all of them is
+// taken before the feed is asked.
 fn gather<M: Machine, K: Keeper<M::Body>, F: RoundFeed<M::Body, M::Say>>(
     mail: &Mail<M::Body>,
     actor: &mut Actor<M, K>,

@@ -25,7 +25,7 @@ pub const BOOT: u64 = 5;
 
 const KEY: u64 = 9;
 
-// A gate that lets every turn pass.
+// A gate that lets every round pass.
 struct Open;
 
 impl Gate for Open {

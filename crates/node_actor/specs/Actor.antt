@@ -24,14 +24,14 @@ pub record Acting (B M K : Type 0) : Type 0 where
   pub spoiled : Bool
   -- its node's seat at the table
   pub seat : Seated B
-  -- what it shows of its last turn
+  -- what it shows of its last turn or round
   pub last : LastTurn
 
--- what is shown before any turn: no packet was fetched, and none was posted
+-- what is shown before any turn or round: no packet was fetched, and none was posted
 abbrev pub no_turn : LastTurn
 no_turn = record { from = None; heard = None; posted = no_nodes; came = [] }
 
--- an actor of these parts at this seat, which shows this of its last turn; the same before any turn; and the parts of an actor
+-- an actor of these parts at this seat, which shows this of its last turn or round; the same before any of them; and the parts of an actor
 
 abbrev pub acting_since : {B M K : Type 0} → LastTurn → Parted B M K → Seated B → Acting B M K
 acting_since l p s = record {

@@ -33,7 +33,7 @@ abbrev pub turn_event : {B : Type 0} → ℕ → ℕ → Option (Packet B) → O
 turn_event me members None = None
 turn_event me members (Some p) = if is_for me members p then Some (Deliver p) else None
 
--- an event of this node that a call may make: no packet is delivered but by a turn, and no act of the transport 0 is taken
+-- an event of this node that a call may make: no packet is delivered but by a turn or a round, and no act of the transport 0 is taken
 abbrev pub is_own : {B : Type 0} → ℕ → Event B → Bool
 is_own me (Take n t body) = (n == me) && nat_lt 0 t
 is_own me (Tick n) = n == me

@@ -17,7 +17,7 @@ use Rattle.node_actor.specs.Actor.{Acting, no_turn}
 use Rattle.node_actor.specs.Views.{View, seen, posted_to, received_from, StandsFor}
 
 -- an actor begins with the rows of its store, raised by one boot: it stands for a view that was opened with them, or begins anew with them,
--- nothing waits, no turn was taken, and its log is that of the snapshot in the rows, or the empty one
+-- nothing waits, no turn or round was taken, and its log is that of the snapshot in the rows, or the empty one
 module _ {B S Y M K : Type 0} (steps : Steps B S Y) (content : M → S) (loaded : List ℕ → Option S) (holds : K → Rows B → Type 0)
     (is_faithful : K → Type 0) where
   pub record Opens (p : Posted B) (machine : M) (keeper : K) (a : Acting B M K) : Type 0 where

@@ -1,4 +1,4 @@
-// The actor: how it takes events and turns, what it shows, and how it crashes or leaves.
+// The actor: how it takes events, turns and rounds, what it shows, and how it crashes or leaves.
 ghost use Rattle.std.specs.Prelude.{◌≡◌, ◌<◌, ◌≤◌, ◌++◌, ℕ, List, [], length, nat_lt, true, false, Some, None, Err, OnOk, All};
 ghost use Rattle.paxos_packets.specs.Snapshot.{floor_in};
 ghost use Rattle.paxos_node.specs.Snapshots.{may_cut};
@@ -42,12 +42,12 @@ use store_keeper::Keeper;
 /// The calls that take an event return what the machine says, at what the event applies, to the transports of this node in its present
 /// boot. They require the table of the actor's seat. None of them waits.
 ///
-/// `from`, `heard` and `posted` tell of the last turn, whatever it returned. Before the first one there is nothing to tell, and no other call
-/// changes what they return, nor does a turn of an actor that a fault has ended.
+/// `from`, `heard`, `posted` and `came` tell of the last turn or round: `from` and `heard` of a turn alone, `came` of a round alone. Before the
+/// first one there is nothing to tell, and no other call changes what they return, nor does one of an actor that a fault has ended.
 pub struct Actor<M: Machine, K: Keeper<M::Body>> {
     parts: Parts<M, K>,
     seat: NodeSeat<M::Body>,
-    // From which member the next turn fetches first.
+    // From which member the next turn or round fetches first.
     first: u8,
     last: LastTurn,
 }

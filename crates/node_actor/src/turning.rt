@@ -30,7 +30,7 @@ pub(crate) struct LastTurn {
 }
 
 impl LastTurn {
-    // Returns what is shown before any turn.
+    // Returns what is shown before any turn or round.
     pub(crate) fn none(alloc: Global) -> LastTurn
         ensures { result ≡ no_turn }
     {

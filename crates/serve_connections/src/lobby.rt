@@ -85,8 +85,8 @@ impl Lobby {
         self.is_stirred.load(Ordering::SeqCst) && self.is_stirred.swap(false, Ordering::SeqCst)
     }
 
-    /// Notes whether packets of the node wait for the node `peer`. For the node's thread, at least one turn before it rests: a peer that takes a
-    /// packet out of the box between the two either sees the note then, or has made room for that turn. A peer above 7 changes nothing.
+    /// Notes whether packets of the node wait for the node `peer`. For the node's thread, at least one round before it rests: a peer that takes a
+    /// packet out of the box between the two either sees the note then, or has made room for that round. A peer above 7 changes nothing.
     pub fn set_waits(&self, peer: u8, waits: bool) {
         let kept = self.waits.load(Ordering::SeqCst);
         let told = if waits {

@@ -11,7 +11,7 @@ use std::alloc::{AllocError, Global};
 use std::net::TcpStream;
 use std::sync::Arc;
 
-/// How many sayings may wait for a client in the ring of its connection, from which its porter takes them. Within a turn a node waits for no
+/// How many sayings may wait for a client in the ring of its connection, from which its porter takes them. Within a round a node waits for no
 /// client, and it says some thousands if it lacked an entry for a moment and then has it.
 ///
 /// A ring takes 176 octets of memory for each saying until it has come around: nothing at first, and 1.4 MiB after 8,192 sayings.
@@ -57,7 +57,7 @@ impl NodeConnection {
         Arc::try_clone(&self.shared)
     }
 
-    /// Wakes the porter. For a node that has put sayings into the ring: once after all of a turn.
+    /// Wakes the porter. For a node that has put sayings into the ring: once after all of a round.
     pub fn announce_sayings(&self) {
         self.shared.ring();
     }

@@ -11,7 +11,7 @@
 //! at most two wake-ups for each batch that moves, one each way, and two idle rounds for each wake-up. Rounds count towards a tick only while beats
 //! are due by the clock, so idle rounds, however many, bring no tick.
 //!
-//! **No node falls far behind.** A majority goes on as fast as it can. What waits for a slower node is lost once that node's outbox is full; then
+//! **No node falls far behind.** A majority goes on as fast as it can. What waits for a slower node is lost once the outbox for it is full; then
 //! the node learns what it lacks tick by tick, and its clients wait. So acts are held back while more than 64 packets wait for a node, for at most
 //! 40 beats: a node that does not run holds nobody up for longer.
 #![tactic(auto)]

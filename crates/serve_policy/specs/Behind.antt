@@ -17,7 +17,7 @@ abbrev pub ends_above : Option ℕ → ℕ → Bool
 ends_above None log = false
 ends_above (Some floor) log = nat_lt log floor
 
--- a turn, after which the log has this length, and in which a snapshot came that ends there, or none
+-- a round, after which the log has this length, and in which a snapshot came that ends there, or none
 abbrev pub offering : ℕ → Option ℕ → Offers → Offers
 offering log floor o =
     if log == o.log then record o { is_offered = o.is_offered || ends_above floor log }

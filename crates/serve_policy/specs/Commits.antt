@@ -14,6 +14,6 @@ noting micros commits known = if commits == 0 then known else taking (micros / c
 abbrev pub beats_of : ℕ → ℕ
 beats_of known = min (known / 2000) 100
 
--- how many acts a node gives before a round: as many as it commits within a beat, but at least one, and at most 64
+-- how many acts a leader gives before a round: as many as it commits within a beat, but at least one, and at most 64
 abbrev pub acts_a_round : ℕ → ℕ
 acts_a_round known = max (min (2000 / suc known) 64) 1

@@ -14,7 +14,7 @@ pub record Source : Type 0 where
 abbrev pub unheard : Source
 unheard = record { log = 0; has_offered = false; quiet = 4096 }
 
--- a packet of it came in a turn after which the log has this length; a snapshot that ends there, or another packet
+-- a packet of it came in a round after which the log has this length; a snapshot that ends there, or another packet
 abbrev pub hearing : ℕ → Option ℕ → Source → Source
 hearing log floor s =
     record { log = log; has_offered = ends_above floor log || ((log == s.log) && s.has_offered); quiet = 0 }

@@ -42,7 +42,7 @@ impl Behind {
         }
     }
 
-    /// Notes a turn, after which the log has this length; `floor` says where a snapshot ends that came in it. Takes constant time.
+    /// Notes a round, after which the log has this length; `floor` says where a snapshot ends that came in it. Takes constant time.
     pub fn see(&mut self, log: u64, floor: Option<u64>)
         ensures { self.new ≡ offering log floor self.old }
     {

@@ -7,7 +7,7 @@ use std::marker::Model;
 /// The length of a beat in microseconds.
 const BEAT_MICROS: u32 = 2_000;
 
-/// How many acts a node gives before it posts, at the most.
+/// How many acts a leader gives before it posts, at most.
 const MOST_ACTS: u64 = 64;
 
 /// By how many microseconds more than twofold the time rises at a longer commit.
@@ -42,7 +42,7 @@ impl Commits {
     }
 
     /// Notes that rounds with this many commits took `micros` microseconds. The time rises to that of one of these, to twice what it was and
-    /// half a millisecond at the most, or falls by an eighth of what it is above it. Takes constant time.
+    /// half a millisecond at most, or falls by an eighth of what it is above it. Takes constant time.
     pub fn note(&mut self, micros: u32, commits: u32)
         ensures { self.new ≡ noting micros commits self.old }
     {
@@ -59,7 +59,7 @@ impl Commits {
         (self.micros / BEAT_MICROS).min(MOST_BEATS) as u8
     }
 
-    /// Returns how many acts a node gives before a round: as many as it commits within a beat, but at least one, and at most 64.
+    /// Returns how many acts a leader gives before a round: as many as it commits within a beat, but at least one, and at most 64.
     pub fn acts_a_round(&self) -> u64
         ensures { result ≡ acts_a_round self.now }
     {

@@ -4,7 +4,7 @@ ghost use Rattle.serve_policy.specs.Reader.{first_reader, putting, judging, igno
 
 use std::marker::Model;
 
-/// A client is slow if its ring of 8,192 sayings has room for at most this many: the room is for what the node says in its next turn, within
+/// A client is slow if its ring of 8,192 sayings has room for at most this many: the room is for what the node says in its next round, within
 /// which it does not wait.
 const SLOW_ROOM: usize = 7168;
 

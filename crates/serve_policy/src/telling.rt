@@ -42,7 +42,7 @@ impl Telling {
         }
     }
 
-    /// Notes that a packet of the member came in a turn after which the log has this length; `floor` says where it ends if it is a snapshot.
+    /// Notes that a packet of the member came in a round after which the log has this length; `floor` says where it ends if it is a snapshot.
     /// Takes constant time.
     pub fn hears(&mut self, log: u64, floor: Option<u64>)
         ensures { self.new ≡ hearing log floor self.old }

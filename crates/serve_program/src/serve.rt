@@ -347,7 +347,8 @@ where
 ///
 /// Writes each boot, each node that begins to lead or to serve, how far a long start is, and the fault by which a node ends, in a line on standard
 /// error; a line `status` from the reader is answered by one of each node. A thread of its own writes the lines, so that nobody waits for a
-/// write; at the end all of them have a second to be written. Threads that wait for a connection, for a client or for the reader are left.
+/// write; at the end it has five seconds to take the last one, and one second more to write it. Threads that wait for a connection, for a
+/// client or for the reader are left.
 pub fn serve_run<R, I, W, G>(
     rt: &R,
     host: &HostRuntime,

@@ -141,7 +141,8 @@ impl<'a, C: Cluster> Station<'a, C> {
 }
 
 impl<R: Wait + Clock + Eprint, G: Gate, C: Cluster> Runs<R, G, Left<C>> for Station<'_, C> {
-    // Opens the node over the store that the site names, and runs it until its gate is shut. A node that is lost begins its next boot.
+    // Opens the node over the store that the site names, and runs it until its gate is shut. A node that is lost, or too far
+    // behind, begins its next boot.
     fn run<'b>(self, rt: &'b R, alloc: Global, site: &'b Site<'b, G>) -> Result<Left<C>, NodeEnd> {
         let node = self.fresh.node();
         let Some(lobby) = site.lobbies.get(usize::from(node).saturating_sub(1)) else {

@@ -57,7 +57,7 @@ fn script(rt: &HostRuntime, members: Members, realm: &str) -> ExitCode {
     }
 }
 
-// Lets each node take each of its turns.
+// Lets each node make each of its rounds.
 #[derive(Drop)]
 struct Always;
 
