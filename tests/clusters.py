@@ -1,5 +1,5 @@
 """What the tests of a served cluster share: a client, a cluster of the built program, publishers and subscribers at full speed, threads
-that stand still, and processors that are busy. Every wait is bounded, and end_all ends what was started.
+that stand still, processors that are busy, and syncs that take long. Every wait is bounded, and end_all ends what was started.
 
 It is a module, and also the program of its own helper processes (class Helper): clusters.py WORK OPTIONS, where WORK is `publish`,
 `read`, `call` or `crawl`. WAMPD names a program to use in place of crates/wampd/out/wampd.
@@ -544,6 +544,36 @@ def busy(count):
             loop.kill()
         for loop in loops:
             loop.wait()
+
+
+# ---- libraries that are loaded before the C library
+
+SYNC_LIBRARY = r"""
+#define _GNU_SOURCE
+#include <dlfcn.h>
+#include <stdlib.h>
+#include <time.h>
+static void rest(void) {
+    struct timespec time = {0, atol(getenv("SYNC_MILLISECONDS")) * 1000000};
+    nanosleep(&time, NULL);
+}
+int fdatasync(int file) { rest(); return ((int (*)(int))dlsym(RTLD_NEXT, "fdatasync"))(file); }
+int fsync(int file) { rest(); return ((int (*)(int))dlsym(RTLD_NEXT, "fsync"))(file); }
+"""
+
+
+def preloaded(folder, text):
+    """Returns what a program's environment needs, so that this library is loaded before the C library. It is compiled in the folder."""
+    source, library = os.path.join(folder, "preloaded.c"), os.path.join(folder, "preloaded.so")
+    with open(source, "w") as file:
+        file.write(text)
+    subprocess.run(["cc", "-O2", "-shared", "-fPIC", "-o", library, source, "-ldl"], check=True)
+    return {"LD_PRELOAD": library}
+
+
+def slowed(folder, milliseconds):
+    """Returns what a program's environment needs, so that its syncs take this much more."""
+    return {**preloaded(folder, SYNC_LIBRARY), "SYNC_MILLISECONDS": str(milliseconds)}
 
 
 # ---- publishers at full speed
