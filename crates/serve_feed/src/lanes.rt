@@ -181,7 +181,7 @@ impl Lanes {
         }
     }
 
-    // Does what wants no act, with so many looks at lanes at most: answers the PINGs that come next, and removes each lane of which nothing was
+    // Does what wants no act, with at most this many looks at lanes: answers the PINGs that come next, and removes each lane of which nothing was
     // given and whose client is gone.
     pub fn tend(&mut self, lobby: &Lobby, looks: u8)
         ensures tells { (given : List (ℕ × Act)) → Tells self.old.sources given → Tells self.new.sources given }
