@@ -1,6 +1,8 @@
 // How time becomes beats, how many acts a node gives, and which of its clients it waits for.
 use crate::check::Check;
-use serve_policy::{Admission, Passed, Reader, beats_due, left_of_waits, left_to_wait};
+use serve_policy::{
+    Admission, Passed, Reader, beats_due, left_of_waits, left_to_wait, looks_aside,
+};
 use test_checks::{check, check_eq};
 
 // Beats that are due, of which none was skipped.
@@ -165,6 +167,13 @@ fn gives_acts_up_to_1000_pending_if_it_leads_and_else_only_if_none_is(rt: HostRu
         admission.give();
         check!(&rt; !admission.has_room(), *row);
     }
+}
+
+#[test]
+fn looks_at_more_clients_in_a_round_without_acts_if_commits_take_long(rt: HostRuntime) {
+    check_eq!(&rt; looks_aside(0), 8);
+    check_eq!(&rt; looks_aside(1), 64);
+    check_eq!(&rt; looks_aside(100), 64);
 }
 
 // The room for sayings that is left after 64 more were put, whether the node then waits for the client, and whether it has done so in vain.

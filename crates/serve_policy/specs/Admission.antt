@@ -11,3 +11,8 @@ forwarded commit = if commit == 0 then 64 else 2
 abbrev pub acts_before_round : Bool → ℕ → ℕ → ℕ
 acts_before_round leads pending commit =
     if leads then 1000 - pending else (if pending == 0 then forwarded commit else 0)
+
+-- the number of clients that a node looks at before a round in which it may give no act, by the beats that a commit takes: it answers PINGs and
+-- forgets clients that have gone. Where commits take long such rounds are few, and clients come all the time
+abbrev pub looks_aside : ℕ → ℕ
+looks_aside commit = if commit == 0 then 8 else 64

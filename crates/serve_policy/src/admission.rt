@@ -1,6 +1,6 @@
-// How many acts a node gives before a round, as a leader and otherwise.
+// How many acts a node gives before a round, as a leader and otherwise; and how many clients it looks at if it gives none.
 ghost use Rattle.std.specs.Prelude.{◌≡◌, ◌-◌, nat_lt};
-ghost use Rattle.serve_policy.specs.Admission.{acts_before_round, forwarded};
+ghost use Rattle.serve_policy.specs.Admission.{acts_before_round, forwarded, looks_aside};
 
 use std::marker::Model;
 
@@ -13,6 +13,12 @@ const MOST_FORWARDED: usize = 64;
 
 /// How many such a node gives if a commit takes a beat or more: the leader commits each of them by itself.
 const MOST_FORWARDED_SLOWLY: usize = 2;
+
+/// The number of clients that a node looks at before a round in which it may give no act.
+const LOOKS_ASIDE: u8 = 8;
+
+/// The same if a commit takes a beat or more: a round may have 64 of them, and clients come meanwhile.
+const LOOKS_ASIDE_SLOWLY: u8 = 64;
 
 /// How many acts a node may still give before its next round. A clause sees that number.
 ///
@@ -76,5 +82,15 @@ const fn forwarded(commit: u8) -> usize
         MOST_FORWARDED
     } else {
         MOST_FORWARDED_SLOWLY
+    }
+}
+
+/// Returns the number of clients that a node looks at before a round in which it may give no act. A commit takes `commit` beats.
+pub const fn looks_aside(commit: u8) -> u8
+    ensures { result ≡ looks_aside commit }
+{
+    match commit {
+        0 => LOOKS_ASIDE,
+        _ => LOOKS_ASIDE_SLOWLY,
     }
 }

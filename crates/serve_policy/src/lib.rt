@@ -20,7 +20,7 @@ mod telling;
 mod ticks;
 mod turn;
 
-pub use admission::Admission;
+pub use admission::{Admission, looks_aside};
 pub use backpressure::Backpressure;
 pub use behind::Behind;
 pub use clock::{BEAT_MICROS, BEATS_A_TICK, Passed, beats_due, left_of_waits, left_to_wait};

@@ -12,13 +12,7 @@ use crate::signs::lacks_entries;
 use actor_run::RoundSeen;
 use paxos_node::Event;
 use realm_acts::Act;
-use serve_policy::Due;
-
-/// How many lanes are looked at before a round, at most, while no act may be given.
-const LOOKS_ASIDE: u8 = 8;
-
-/// The same if a commit takes a beat or longer: a round may have 64 of them, and clients come meanwhile.
-const LOOKS_ASIDE_BY_SLOW_COMMITS: u8 = 64;
+use serve_policy::{Due, looks_aside};
 
 impl ClientFeed<'_> {
     // Returns whether a tick may come: none is held back for another member, or the node lacks entries.
@@ -80,15 +74,6 @@ impl ClientFeed<'_> {
         !self.has_room() && self.lanes.is_on_aside()
     }
 
-    // Returns how many lanes are looked at before a round while no act may be given.
-    fn looks_aside(&self) -> u8 {
-        if self.boot.commits.beats() == 0 {
-            LOOKS_ASIDE
-        } else {
-            LOOKS_ASIDE_BY_SLOW_COMMITS
-        }
-    }
-
     // Does for the clients what wants no act, if none may be given.
     fn tend(&mut self)
         ensures node { self.new.node ≡ self.old.node }
@@ -97,7 +82,7 @@ impl ClientFeed<'_> {
         if !self.may_tend() {
             return;
         }
-        let looks = self.looks_aside();
+        let looks = looks_aside(self.boot.commits.beats());
         self.lanes.tend(self.lobby, looks);
         self.lanes.wake_told();
     }
