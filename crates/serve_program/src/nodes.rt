@@ -112,6 +112,18 @@ fn await_end<R: Wait>(rt: &R, ends: &Receiver<End>, nodes: usize) -> Result<(), 
     unreachable!()
 }
 
+// Fails if a node has ended by a fault after the end that was awaited. The threads of all nodes are over, so nothing is waited for.
+fn check_ends<R: Wait>(rt: &R, ends: &Receiver<End>) -> Result<(), ClusterStop> {
+    for _ in rt.forever() {
+        match ends.try_recv(rt) {
+            Ok(End::Node(end)) => return Err(ClusterStop::Node(end)),
+            Ok(End::Input | End::Shut) => {}
+            Err(_) => return Ok(()),
+        }
+    }
+    unreachable!()
+}
+
 // Runs a node to its end, on its thread. Returns what is left of it if its gate was shut.
 fn run_node_thread<'b, R, G, T, L>(
     rt: &'b R,
@@ -139,8 +151,8 @@ where
     }
 }
 
-// Runs all nodes' threads until an end comes, shuts their gates, and returns what is left of the nodes, apart from those that ended before. It
-// is generic in what runs on the threads and what is left, so that both cross by their bounds.
+// Runs all nodes' threads until an end comes, shuts their gates, and returns what is left of the nodes. An error is the first fault by which a
+// node ended, or `Memory`. It is generic in what runs on the threads and what is left, so that both cross by their bounds.
 #[tactic(auto, using(crate::proofs::Sendable::ended_send))]
 fn run_all<'b, R, G, T, L>(
     rt: &'b R,
@@ -185,10 +197,12 @@ where
                     spawned = all.push(left).is_ok() && spawned;
                 }
             }
-            match end {
-                Ok(()) if spawned => Ok(all),
-                Ok(()) => Err(ClusterStop::Memory),
-                Err(stop) => Err(stop),
+            end?;
+            check_ends(rt, receiver)?;
+            if spawned {
+                Ok(all)
+            } else {
+                Err(ClusterStop::Memory)
             }
         },
     )
@@ -207,8 +221,8 @@ fn seats_of<C: Cluster>(alloc: Global, all: Vec<Left<C>>) -> Result<Vec<NodeSeat
     Ok(seats)
 }
 
-/// Runs the nodes of a founded cluster, each on a thread, until an end comes. Returns the seats of all nodes that ended because their gate was
-/// shut. An error is the end of a node that ended before all of them were to, or `Memory`.
+/// Runs the nodes of a founded cluster, each on a thread, until an end comes. Returns the seats of all nodes. An error is the first fault by
+/// which a node ended, before the end or after it in its last round, or `Memory`.
 pub(crate) fn run_cluster<R, G, C>(
     rt: &R,
     alloc: Global,

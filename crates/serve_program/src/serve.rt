@@ -339,8 +339,8 @@ where
 
 /// Runs this cluster, each node on a thread under this gate, and serves its clients. Writes where each node listens before that.
 ///
-/// Returns when the reader ends, with what the nodes' seats knew, if every node was still running then. An error is the fault that ended
-/// the cluster before; that a node is lost in its boot, or too far behind, is none: it begins its next boot, without its clients. A folder
+/// Returns when the reader ends, with what the nodes' seats knew. An error is the first fault by which a node ended, before that or in its
+/// last round after it. A node that is lost in its boot, or too far behind, ends nothing: it begins its next boot, without its clients. A folder
 /// that has the database of a node above the members is refused with `NoMember`, and one whose file `cluster` is of other members or of
 /// another realm with `OtherCluster`, by a line on standard error that names the file: nothing is opened or changed then. A folder without
 /// that file gets it.
