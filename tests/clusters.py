@@ -477,7 +477,14 @@ def in_thread(work, *args):
 SYSTEM = ctypes.CDLL(None, use_errno=True)
 SYSTEM.ptrace.restype = ctypes.c_long
 SYSTEM.ptrace.argtypes = [ctypes.c_long, ctypes.c_long, ctypes.c_void_p, ctypes.c_void_p]
-SEIZE, INTERRUPT, DETACH = 0x4206, 0x4207, 17
+SEIZE, INTERRUPT, DETACH, PEEK_USER = 0x4206, 0x4207, 17, 3
+# Where the registers are that tell where a thread stands, in octets: the next instruction, and the number of the system call that it is in,
+# negative if it is in none.
+NEXT_INSTRUCTION, SYSTEM_CALL = 16 * 8, 15 * 8
+# The system calls by which the allocator gets and gives back memory: mmap, mprotect, munmap, brk, mremap, madvise.
+MEMORY_CALLS = {9, 10, 11, 12, 25, 28}
+# How often a thread is let go and stopped again, so that it does not stand in the C library, and for how many seconds it runs between.
+TRIES_TO_HOLD, BETWEEN_TRIES = 1000, 0.0005
 # Lets waitpid(2) wait for a thread of another process.
 ANY_THREAD = 0x40000000
 
@@ -496,6 +503,43 @@ def await_stop(thread):
         time.sleep(0.001)
 
 
+def register(thread, place):
+    """Returns a register of a thread that stands still."""
+    return SYSTEM.ptrace(PEEK_USER, thread, ctypes.c_void_p(place), None)
+
+
+def stands_in_library(thread):
+    """Returns whether a thread that stands still is in the C library or in a system call for memory, but in no other one. Then it may have a
+    lock of the allocator, for which each thread waits that gives memory back to it."""
+    call = register(thread, SYSTEM_CALL)
+    if call >= 0:
+        return call in MEMORY_CALLS
+    at = register(thread, NEXT_INSTRUCTION)
+    with open(f"/proc/{thread}/maps") as maps:
+        for line in maps:
+            first, last = (int(end, 16) for end in line.split(" ", 1)[0].split("-"))
+            if first <= at < last:
+                return "/libc" in line
+    return False
+
+
+def stop(thread):
+    """Stops a thread at a moment at which it has no lock of the C library."""
+    for _ in range(TRIES_TO_HOLD):
+        trace(SEIZE, thread)
+        try:
+            trace(INTERRUPT, thread)
+            await_stop(thread)
+            if not stands_in_library(thread):
+                return
+        except BaseException:
+            let_go(thread)
+            raise
+        let_go(thread)
+        time.sleep(BETWEEN_TRIES)
+    raise Fault(f"thread {thread} is always in the C library")
+
+
 def let_go(thread):
     try:
         trace(DETACH, thread)
@@ -508,15 +552,13 @@ def let_go(thread):
 @contextlib.contextmanager
 def held(*threads):
     """Holds these threads of a child: they get no processor inside the block (ptrace(2), which needs root, or permission for the same user).
-    The child's other threads go on. The thread that enters the block has to leave it, too; if this process ends, they are released."""
+    None stands where the others need what it has: in the allocator. The child's other threads go on. The thread that enters the block has to
+    leave it, too; if this process ends, they are released."""
     taken = []
     try:
         for thread in threads:
-            trace(SEIZE, thread)
+            stop(thread)
             taken.append(thread)
-            trace(INTERRUPT, thread)
-        for thread in threads:
-            await_stop(thread)
         yield
     finally:
         for thread in taken:
