@@ -26,7 +26,7 @@ use Rattle.mail_table.proofs.Going.{Sends, Takes, Owed, goes, mine, box_taken}
 use Rattle.mail_table.proofs.Parcels.{box_ahead}
 use Rattle.mail_table.proofs.Places.{at_both, apart, word_tells, word_below}
 use Rattle.mail_table.proofs.Posting.{Next}
-use Rattle.mail_table.specs.Boxes.{Kept, Placed, Posted, Received, Follows, Sat, sits, IsAhead, Advances, Renews, word_of}
+use Rattle.mail_table.specs.Boxes.{Kept, Placed, Posted, Received, Follows, MayMake, Sat, sits, IsAhead, Advances, Renews, word_of}
 use Rattle.mail_table.specs.Covered.{Covered, Fed, MayRenew, with_at}
 use Rattle.mail_table.specs.Views.{box_of, only, through, moving, renewing, reopened}
 use Rattle.mail_table.specs.declared.part.Part.{Part}
@@ -106,20 +106,25 @@ module _ {B : Type 0} (same : B → B → Bool) (n most : ℕ) (x : Part B) (id 
         subst P (ap (λ (z : Part B). z.seen) (mine same n most s kept id x x at refl)) (λ m. covered_renewed same equal n seen x.me r
         kept.covered member m) may
 
-    advances : (slots : ℕ) (o : Outcome B) (node : NodeState B) (packets : List (Packet B)) → Follows same n x o
-        → node ≡ adopted x.me n o x.seen.node → packets ≡ o.packets
+    advances_by : (slots : ℕ) (e : Event B) (node : NodeState B) (packets : List (Packet B)) → MayMake n x e
+        → node ≡ (outcome_of same n e x.seen.node).node → packets ≡ (outcome_of same n e x.seen.node).packets
         → Allows (Kept same n most) slots id (sits x []) i (λ m. (m + 1) % 2 ^ 64) (Advances node packets (step slots i 1 0 none) (sits x []))
-    advances slots o node packets f node_is packets_are s kept len at fits =
-        let t = outcome_of same n f.event x.seen.node in
-        let a : t.node ≡ node = sym f.is.node ∙ (ap (λ k. adopted k n o x.seen.node) f.own ∙ sym node_is) in
-        let b : t.packets ≡ packets = sym f.is.packets ∙ sym packets_are in
+    advances_by slots e node packets f node_is packets_are s kept len at fits =
         counts s kept at (moving node packets x) refl (λ j. record { doing = refl; posted = refl }) (λ j. record {
           doing = refl;
           received = refl;
         }) refl
         (subst (λ (z : NodeState B × List (Packet B)). Covered same n (with_at (λ k. (kept.part k).seen) x.me (moved z.0 z.1 x.seen)))
-        (λ j. (a j, b j)) (moved_covered s kept at f.event f.rows f.opened f.own f.may f.received))
+        (λ j. (sym node_is j, sym packets_are j)) (moved_covered s kept at e f.rows f.opened f.own f.may f.received))
         (λ old k p mk h. let z = old k p mk h in (has_left packets z.0, z.1))
+
+    advances : (slots : ℕ) (o : Outcome B) (node : NodeState B) (packets : List (Packet B)) → Follows same n x o
+        → node ≡ adopted x.me n o x.seen.node → packets ≡ o.packets
+        → Allows (Kept same n most) slots id (sits x []) i (λ m. (m + 1) % 2 ^ 64) (Advances node packets (step slots i 1 0 none) (sits x []))
+    advances slots o node packets f node_is packets_are =
+        advances_by slots f.event node packets
+        (record { rows = f.rows; opened = f.opened; own = f.own; may = f.may; received = f.received })
+        (node_is ∙ (ap (λ k. adopted k n o x.seen.node) (sym f.own) ∙ f.is.node)) (packets_are ∙ f.is.packets)
 
     renews : (slots : ℕ) (r : Rows B) → MayRenew x.seen.opened x.seen.node r
         → Allows (Kept same n most) slots id (sits x []) i (λ m. (m + 1) % 2 ^ 64) (Renews r (step slots i 1 0 none) (sits x []))
@@ -139,6 +144,14 @@ module _ {B : Type 0} (same : B → B → Bool) (equal : IsEquality same) (n mos
   advances_at me o node packets e member is room f node_is packets_are =
       subst (λ z. Allows (Kept same n most) slots id z i (λ m. (m + 1) % 2 ^ 64) (Advances node packets (step slots i 1 0 none) z)) (sym e)
       (advances same n most (only me.0) id i member is room equal slots o node packets f node_is packets_are)
+
+  pub advances_by_at : (me : Sat B) (e : Event B) (node : NodeState B) (packets : List (Packet B)) → me ≡ sits (only me.0) []
+      → IsMember n (only me.0).me → i ≡ word_of n (only me.0).me → (only me.0).events < 2 ^ 62 → MayMake n (only me.0) e
+      → node ≡ (outcome_of same n e (only me.0).seen.node).node → packets ≡ (outcome_of same n e (only me.0).seen.node).packets
+      → Allows (Kept same n most) slots id me i (λ m. (m + 1) % 2 ^ 64) (Advances node packets (step slots i 1 0 none) me)
+  advances_by_at me e node packets at member is room f node_is packets_are =
+      subst (λ z. Allows (Kept same n most) slots id z i (λ m. (m + 1) % 2 ^ 64) (Advances node packets (step slots i 1 0 none) z)) (sym at)
+      (advances_by same n most (only me.0) id i member is room equal slots e node packets f node_is packets_are)
 
   pub renews_at : (me : Sat B) (r : Rows B) → me ≡ sits (only me.0) [] → IsMember n (only me.0).me → i ≡ word_of n (only me.0).me
       → (only me.0).events < 2 ^ 62 → MayRenew (only me.0).seen.opened (only me.0).seen.node r

@@ -169,6 +169,14 @@ abbrev pub Received : {B : Type 0} → ℕ → Part B → Event B → Type 0
 Received n x e =
     MatchOption (packet_in e) (Unit {0}) (λ p. (a : ℕ) × IsMember n a × Has (through (box_of n a x.me) x.received) p)
 
+-- a possible event of the node that the view shows
+pub record MayMake {B : Type 0} (n : ℕ) (x : Part B) (e : Event B) : Type 0 where
+  pub rows : Rows B
+  pub opened : x.seen.opened ≡ With rows
+  pub own : owner e ≡ x.me
+  pub may : possible e x.seen.node ≡ true
+  pub received : Received n x e
+
 -- an outcome of a possible event of the node that the view shows
 pub record Follows {B : Type 0} (same : B → B → Bool) (n : ℕ) (x : Part B) (o : Outcome B) : Type 0 where
   pub event : Event B

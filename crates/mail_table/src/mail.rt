@@ -6,7 +6,9 @@ ghost use Rattle.paxos_packets.specs.Members.{IsMember};
 ghost use Rattle.paxos_packets.specs.declared.packet.Packet as packets;
 ghost use Rattle.paxos_packets.specs.Snapshot.{floor_in};
 ghost use Rattle.paxos_node.specs.Adopting.{adopted};
-ghost use Rattle.mail_table.specs.Boxes.{AreTo, Follows};
+ghost use Rattle.paxos_node.specs.Events.{outcome_of};
+ghost use Rattle.paxos_planning.specs.Node.{told_length};
+ghost use Rattle.mail_table.specs.Boxes.{AreTo, Follows, MayMake};
 ghost use Rattle.mail_table.specs.Covered.{MayRenew};
 ghost use Rattle.mail_table.specs.Seats.{Owns, knows};
 ghost use Rattle.mail_table.specs.Views.{box_of, posting, posting_all, receiving, receiving_all, lost, moving, renewing};
@@ -16,8 +18,10 @@ use crate::fault::Worn;
 use crate::office::{Mark, same_table};
 use crate::plays::Boxes;
 use crate::seat::NodeSeat;
-use crate::steps::{advance_as, box_at, fetch_from, is_empty, post_in, renew_as, word_at};
-use paxos_node::Outcome;
+use crate::steps::{
+    advance_as, advance_by_as, box_at, fetch_from, is_empty, post_in, renew_as, word_at,
+};
+use paxos_node::{Event, Outcome};
 use paxos_packets::{Body, Packet, Rows};
 use std::alloc::Global;
 use std::marker::{Brand, Model};
@@ -180,6 +184,31 @@ impl<B: Body> Mail<B> {
         advance_as::<B, Brand>(&self.table, &mut seat.seat, at, outcome);
         seat.events += 1;
         seat.log = outcome.log();
+        Ok(())
+    }
+
+    /// Takes the step of this event, without its outcome: a possible event of the node that the seat knows; a packet that it delivers is one
+    /// that the seat received. After it the node's log is `log` entries long, or the node is down and `log` is 0. `Worn` after 2^62 events,
+    /// which changes nothing.
+    pub fn advance_by(&self, seat: &mut NodeSeat<B>, event: &Event<B>, log: u64) -> Result<(), Worn>
+        requires owned { Owns self.now seat.old }
+        requires may { MayMake self.now.members seat.old.part event.now }
+        requires log { log ≡ told_length (outcome_of B.same self.now.members event.now seat.old.part.seen.node).node }
+        ensures exactly { is_ok result ≡ nat_lt seat.old.part.events (2 ^ 62) }
+        ensures moved { OnOk result (seat.new ≡ knows
+            (moving (outcome_of B.same self.now.members event.now seat.old.part.seen.node).node
+            (outcome_of B.same self.now.members event.now seat.old.part.seen.node).packets seat.old.part) seat.old) }
+        ensures worn { OnErr result (seat.new ≡ seat.old) }
+        ensures still_owned { Owns self.now seat.new }
+    {
+        if !seat.may_advance() {
+            return Err(Worn);
+        }
+        same_table(&self.mark, &self.table, &seat.mark, &seat.seat); // for the proof
+        let at = word_at(self.nodes, seat.node);
+        advance_by_as::<B, Brand>(&self.table, &mut seat.seat, at, event);
+        seat.events += 1;
+        seat.log = log;
         Ok(())
     }
 

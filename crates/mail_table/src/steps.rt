@@ -1,18 +1,19 @@
 //! The steps of post, fetch, advance and renew, over a table and a seat at it. None waits.
 ghost use Rattle.std.specs.Prelude.{◌≡◌, ◌<◌, ◌≤◌, ◌^◌, [], MatchBool, MatchResult, MatchOption, IfSome, length};
 ghost use Rattle.paxos_packets.specs.Members.{IsMember};
-ghost use Rattle.mail_table.specs.Boxes.{sits, word_of, AreTo, MaySeek, MayPost, MayFetch, Follows};
+ghost use Rattle.mail_table.specs.Boxes.{sits, word_of, AreTo, MaySeek, MayPost, MayFetch, MayMake, Follows};
 ghost use Rattle.mail_table.specs.Covered.{MayRenew};
 ghost use Rattle.mail_table.specs.Seats.{IsSized};
 ghost use Rattle.mail_table.specs.Views.{only, box_of, posting_all, receiving_all, lost, moving, renewing};
 ghost use Rattle.paxos_node.specs.Adopting.{adopted};
+ghost use Rattle.paxos_node.specs.Events.{outcome_of};
 
 use crate::batch::Batch;
 use crate::plays::{
     Advance, Beginning, Boxes, Claim, Clear, Deliver, Fetch, Holding, Renew, SeekEmpty, SeekFull,
     Telling, Token,
 };
-use paxos_node::Outcome;
+use paxos_node::{Event, Outcome};
 use paxos_packets::{Body, Rows};
 use std::marker::Brand;
 
@@ -194,6 +195,29 @@ pub(crate) fn advance_as<B: Body, J: Telling<B>>(
     ensures same { seat.new.table_id ≡ seat.old.table_id }
 {
     let _ = outcome; // for the proof
+    table.shared.fetch_add::<Advance<J>>(seat, at, 1);
+}
+
+// Takes the step of this event.
+pub(crate) fn advance_by_as<B: Body, J: Telling<B>>(
+    table: &Boxes<B>,
+    seat: &mut Token<B>,
+    at: usize,
+    event: &Event<B>,
+)
+    requires table { seat.old.table_id ≡ table.now.shared.table_id }
+    requires sized { IsSized table.now.shared.key.nodes table.now.shared.key.most table.now.shared.key table.now.shared.table_id }
+    requires alone { seat.old.me ≡ sits (only seat.old.me.0) [] }
+    requires member { IsMember table.now.shared.key.nodes (only seat.old.me.0).me }
+    requires word { at ≡ word_of table.now.shared.key.nodes (only seat.old.me.0).me }
+    requires room { (only seat.old.me.0).events < 2 ^ 62 }
+    requires may { MayMake table.now.shared.key.nodes (only seat.old.me.0) event.now }
+    requires node { J.node ≡ (outcome_of B.same table.now.shared.key.nodes event.now (only seat.old.me.0).seen.node).node }
+    requires packets { J.packets ≡ (outcome_of B.same table.now.shared.key.nodes event.now (only seat.old.me.0).seen.node).packets }
+    ensures moved { seat.new.me ≡ sits (moving J.node J.packets (only seat.old.me.0)) [] }
+    ensures same { seat.new.table_id ≡ seat.old.table_id }
+{
+    let _ = event; // for the proof
     table.shared.fetch_add::<Advance<J>>(seat, at, 1);
 }
 

@@ -1,14 +1,14 @@
 -- A change that the rows have leaves them as they are.
-use Rattle.std.proofs.Common.{◌≡◌, ℕ, ◌<◌, ◌≤◌, Bool, true, false, cond, ◌&&◌, ltb, eqb, Option, Some, None, is_none, List, [], ◌∷◌, refl, sym, ap, subst, ◌∙◌, eq-eqb, arith}
+use Rattle.std.proofs.Common.{◌≡◌, ℕ, ◌<◌, ◌≤◌, Bool, true, false, cond, ◌&&◌, ltb, eqb, Option, Some, None, is_none, List, [], ◌∷◌, refl, sym, ap, ◌∙◌, eq-eqb, arith}
 use Rattle.std.proofs.lemmas.Bool.{and_parts, eqb-true, ltb-true}
 use Rattle.std.proofs.lemmas.Bool.Decides.{nat_tests}
 use Rattle.std.specs.List.{list_all}
 use Rattle.std.specs.Option.{option_or}
-use Rattle.paxos_packets.specs.Ballot.{same_ballot, ballot_sound}
+use Rattle.paxos_packets.specs.Ballot.{ballot_sound}
 use Rattle.paxos_packets.specs.Body.{IsEquality}
 use Rattle.paxos_packets.specs.Rows.{rows_equal, kept_votes}
 use Rattle.paxos_packets.specs.Snapshot.{Snapshot}
-use Rattle.paxos_packets.specs.Vote.{IsAscending, put_vote, put_votes, vote_in, same_vote, vote_equality}
+use Rattle.paxos_packets.specs.Vote.{IsAscending, put_vote, put_votes, vote_in, vote_equality}
 use Rattle.paxos_packets.specs.declared.ballot.Ballot.{Ballot}
 use Rattle.paxos_packets.specs.declared.rows.Change.{Change}
 use Rattle.paxos_packets.specs.declared.rows.Rows.{Rows}

@@ -1,1 +1,3 @@
 pub mod Acceptor
+pub mod Ahead
+pub mod Examples

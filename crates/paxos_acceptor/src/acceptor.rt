@@ -1,13 +1,16 @@
 // The acceptor's rules: what it commits and sends for a packet, and how it adopts a change.
-ghost use Rattle.std.specs.Prelude.{◌≡◌, ◌≤◌, true, false, length, IfOk, IsErr, OnOk, OnErr, option_copied};
+ghost use Rattle.std.specs.Prelude.{◌≡◌, ◌≤◌, true, false, None, length, IfOk, IsErr, OnOk, OnErr, option_copied};
 ghost use Rattle.paxos_packets.specs.Vote.{votes_from};
 ghost use Rattle.std.specs.List.{list_all};
 ghost use Rattle.paxos_acceptor.specs.Acceptor.{adopted, judged, may_promise, may_accept, refused, prepared, voted, cast_or_shown, given_by};
 ghost use Rattle.paxos_acceptor.specs.Acceptor.{has_all, has_promise, has_vote};
+ghost use Rattle.paxos_acceptor.specs.Ahead.{IsAhead, none_noted, put_all_back, put_had, taken_back};
+ghost use Rattle.paxos_packets.specs.declared.rows.Rows as held_rows;
 ghost use Rattle.paxos_packets.specs.Rows.{kept_votes};
 ghost use Rattle.paxos_packets.specs.Snapshot.{floor_in};
 ghost use Rattle.std.specs.Option.{option_or};
 
+use crate::ahead::{Ahead, Replaced};
 use crate::fault::Memory;
 use crate::verdict::{Answer, Verdict};
 use paxos_packets::{
@@ -53,6 +56,14 @@ impl<B> Model for Acceptor<B> {
 }
 
 impl<B> Acceptor<B> {
+    /// Returns that its rows are not ahead of what is committed. Does not allocate.
+    pub fn nothing_ahead(&self) -> Ahead<B>
+        ensures noted { result ≡ none_noted self.now.rows.promised }
+        ensures ahead { IsAhead self.now.rows result self.now.rows }
+    {
+        Ahead::none(self.alloc, self.promised)
+    }
+
     /// Returns the acceptor with these rows. Does not allocate; the other calls will, from `alloc`.
     pub fn of(alloc: Global, rows: Rows<B>) -> Acceptor<B>
         ensures rows { result.rows ≡ rows }
@@ -289,6 +300,32 @@ impl<B: Body> Acceptor<B> {
         }
     }
 
+    /// Notes a change without a snapshot that is to be adopted before it is committed: the rows are ahead then by what was noted, and this
+    /// change. On `Memory` nothing is noted.
+    pub fn note(&self, change: &Change<B>, ahead: &mut Ahead<B>) -> Result<(), Memory>
+        requires { change.now.snapshot ≡ None }
+        ensures ok { (kept : held_rows.Rows B) → IsAhead kept ahead.old self.now.rows
+            → OnOk result (IsAhead kept ahead.new (adopted self.now.rows change.now)) }
+        ensures err { OnErr result (ahead.new ≡ ahead.old) }
+    {
+        if self.has_all(change) {
+            return Ok(());
+        }
+        ahead.add(&self.votes, change)
+    }
+
+    /// Goes back to the rows before all changes that were noted. Returns the sum of these. Does not allocate.
+    pub fn take_back(&mut self, ahead: Ahead<B>) -> Change<B>
+        ensures rows { self.new.rows ≡ taken_back ahead self.old.rows }
+        ensures failed { self.new.failed ≡ self.old.failed }
+        ensures change { result ≡ ahead.change }
+    {
+        let (change, promised, replaced) = ahead.into_parts();
+        put_all_back(&mut self.votes, replaced);
+        self.promised = promised;
+        change
+    }
+
     // Takes over a new snapshot, if there is one, and forgets the votes up to its floor.
     fn rest_on(&mut self, snapshot: Option<Snapshot>)
         ensures boot { self.new.rows.boot ≡ self.old.rows.boot }
@@ -395,5 +432,24 @@ fn has_promise(held: Option<Ballot>, new: Option<Ballot>) -> bool
         (_, None) => true,
         (Some(held), Some(new)) => held == new,
         (None, Some(_)) => false,
+    }
+}
+
+// Puts back what votes replaced, the last one first.
+fn put_all_back<B: Drop>(votes: &mut KeptVotes<B>, mut replaced: Vec<Replaced<B>>)
+    ensures { votes.new.votes ≡ put_all_back replaced.items votes.old.votes }
+{
+    while let Some(had) = replaced.pop() {
+        put_back(votes, had);
+    }
+}
+
+// Puts back what a vote replaced.
+fn put_back<B: Drop>(votes: &mut KeptVotes<B>, had: Replaced<B>)
+    ensures { votes.new.votes ≡ put_had had votes.old.votes }
+{
+    match had {
+        Replaced::Nothing { slot } => votes.put_back(slot, None),
+        Replaced::Held { vote } => votes.put_back(vote.slot, Some(vote)),
     }
 }

@@ -2,11 +2,13 @@
 #![tactic(auto)]
 
 mod acceptor;
+mod ahead;
 mod fault;
 pub mod laws;
 mod verdict;
 
 pub use acceptor::Acceptor;
+pub use ahead::{Ahead, Replaced};
 pub use fault::Memory;
 pub use paxos_packets::{Ballot, Body, Change, Floor, Kind, Packet, Rows, Snapshot, Vote, Votes};
 pub use verdict::{Answer, Verdict};

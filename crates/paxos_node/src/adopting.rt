@@ -4,6 +4,7 @@ ghost use Rattle.std.specs.Prelude.{◌≡◌, ◌<◌, ◌≤◌, ◌+◌, ◌^
 ghost use Rattle.paxos_node.specs.declared.fault.NodeFault.TheVariants.{Memory};
 ghost use Rattle.paxos_node.specs.Adopting.{adopted, rested, committed, moved_on, Fits};
 ghost use Rattle.paxos_planning.specs.Node.{log_length};
+ghost use Rattle.paxos_acceptor.specs.Ahead.{taken_back};
 ghost use Rattle.paxos_node.specs.Applying.{down};
 ghost use Rattle.paxos_node.specs.Held.{learner_in, HasRoom, CanGoOn};
 ghost use Rattle.paxos_learner.specs.Hearing.{HasRoomFor};
@@ -18,7 +19,7 @@ use crate::outcome::Outcome;
 use crate::packets::Packets;
 use crate::snapshots::{rest, roll_at};
 use crate::waiting::{apply_all, wait};
-use paxos_acceptor::Acceptor;
+use paxos_acceptor::{Acceptor, Ahead};
 use paxos_learner::Learner;
 use paxos_packets::{Body, Change, Entries, Entry};
 use paxos_proposer::Proposer;
@@ -96,6 +97,19 @@ impl<B: Body> Node<B> {
             return Err(NodeFault::Memory);
         };
         Ok(self.adopt_in_room(outcome))
+    }
+
+    /// Goes down, over the rows before all changes that were noted. Returns the sum of these. Does not allocate.
+    pub fn go_back(&mut self, ahead: Ahead<B>) -> Change<B>
+        ensures state { self.new.state ≡ down (taken_back ahead self.old.state.rows) }
+        ensures me { self.new.me ≡ self.old.me }
+        ensures members { self.new.members ≡ self.old.members }
+        ensures failed { self.new.failed ≡ self.old.failed }
+        ensures change { result ≡ ahead.change }
+    {
+        let change = self.acceptor.take_back(ahead);
+        self.go_down();
+        change
     }
 
     // Adopts the change that is committed; with a snapshot, which came in a packet or not, the node rests on that first.

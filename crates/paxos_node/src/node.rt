@@ -1,10 +1,12 @@
 //! The node: how it begins with its rows, and what it shows.
 
-ghost use Rattle.std.specs.Prelude.{◌≡◌, ◌↔◌, ◌<◌, ◌+◌, ◌^◌, suc, vec_len, vec_capacity, true, false, nat_lt, length, Some, IsOk, IfOk, IfErr, IsOkUnless, Err, option_copied, if◌then◌else◌};
+ghost use Rattle.std.specs.Prelude.{◌≡◌, ◌↔◌, ◌<◌, ◌+◌, ◌^◌, suc, vec_len, vec_capacity, true, false, nat_lt, length, Some, IsOk, IfOk, IfErr, IsOkUnless, Err, None, OnErr, OnOk, option_copied, if◌then◌else◌};
 ghost use Rattle.paxos_node.specs.declared.fault.NodeFault.TheVariants.{Memory, Rounds};
 ghost use Rattle.paxos_packets.specs.Snapshot.{floor_in};
 ghost use Rattle.paxos_packets.specs.Vote.{votes_from};
 ghost use Rattle.paxos_acceptor.specs.Acceptor as accepting;
+ghost use Rattle.paxos_acceptor.specs.Ahead.{none_noted, IsAhead};
+ghost use Rattle.paxos_packets.specs.declared.rows.Rows as held_rows;
 ghost use Rattle.paxos_node.specs.Adopting.{adopted};
 ghost use Rattle.paxos_planning.specs.Node.{log_length};
 ghost use Rattle.paxos_planning.specs.Parts.{learner_of};
@@ -19,7 +21,7 @@ ghost use Rattle.replica_machine.specs.Roll.{HasStandings};
 
 use crate::fault::NodeFault;
 use crate::snapshots::roll_at;
-use paxos_acceptor::Acceptor;
+use paxos_acceptor::{Acceptor, Ahead};
 use paxos_learner::{Hearing, Learner};
 use paxos_packets::{
     Ballot, Body, Change, Entries, Entry, Floor, Members, Rows, Snapshot, Vote, Votes,
@@ -365,6 +367,32 @@ impl<B: Body> Node<B> {
         ensures same { result ≡ true → accepting.adopted self.now.state.rows change.now ≡ self.now.state.rows }
     {
         self.acceptor.has_all(change)
+    }
+
+    /// Returns that its rows are not ahead of what is committed. Does not allocate.
+    pub fn nothing_ahead(&self) -> Ahead<B>
+        ensures noted { result ≡ none_noted self.now.state.rows.promised }
+        ensures ahead { IsAhead self.now.state.rows result self.now.state.rows }
+    {
+        self.acceptor.nothing_ahead()
+    }
+
+    /// Notes a change without a snapshot by which the node is to go on before it is committed, as `Acceptor::note` does. On `Memory` nothing is
+    /// noted.
+    pub fn note(
+        &self,
+        change: &Change<B>,
+        ahead: &mut Ahead<B>,
+    ) -> Result<(), paxos_packets::Memory>
+        requires { change.now.snapshot ≡ None }
+        ensures ok { (kept : held_rows.Rows B) → IsAhead kept ahead.old self.now.state.rows
+            → OnOk result (IsAhead kept ahead.new (accepting.adopted self.now.state.rows change.now)) }
+        ensures err { OnErr result (ahead.new ≡ ahead.old) }
+    {
+        match self.acceptor.note(change, ahead) {
+            Ok(()) => Ok(()),
+            Err(_) => Err(paxos_packets::Memory),
+        }
     }
 
     /// Returns copies of the votes that the node has cast from the slot with this number on, or `Memory`. It copies no other vote, and looks

@@ -4,3 +4,4 @@ pub mod Ascending
 pub mod Placing
 pub mod Behind
 pub mod Floors
+pub mod PuttingBack

@@ -1,6 +1,6 @@
 -- Votes: which are equal, given a test for bodies, and votes by slot, at most one in each, by ascending slot.
 use Rattle.std.proofs.Common.{◌≡◌, ℕ, suc, Bool, true, ◌&&◌, List, [], ◌∷◌, Option}
-use Rattle.std.specs.Prelude.{nat_lt, nat_le, ◌==◌, filter, fold, map, if◌then◌else◌}
+use Rattle.std.specs.Prelude.{nat_lt, nat_le, ◌==◌, ◌++◌, filter, fold, map, option_to_list, if◌then◌else◌}
 use Rattle.std.specs.List.{find}
 use Rattle.std.specs.List.Sorted.{IsStrictlySortedBy}
 use Rattle.std.specs.Ordering.{nat_cmp}
@@ -36,6 +36,11 @@ put_vote v (w ∷ ws) =
 -- these votes, one after the other
 abbrev pub put_votes : {B : Type 0} → List (Vote B) → List (Vote B) → List (Vote B)
 put_votes vs ws = fold (λ us v. put_vote v us) ws vs
+
+-- another vote for the slot, or none, in the place of the one that is there, if one is
+abbrev pub put_back : {B : Type 0} → ℕ → Option (Vote B) → List (Vote B) → List (Vote B)
+put_back slot other [] = []
+put_back slot other (w ∷ ws) = if slot == w.slot then option_to_list other ++ ws else w ∷ put_back slot other ws
 
 -- the votes from a slot on
 abbrev pub votes_from : {B : Type 0} → ℕ → List (Vote B) → List (Vote B)

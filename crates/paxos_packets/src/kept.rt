@@ -1,11 +1,11 @@
 //! A table of votes by slot, which has room for votes before they are committed.
 
-ghost use Rattle.std.specs.Prelude.{◌≡◌, ◌≤◌, suc, length, IfOk, OnOk, option_copied};
-ghost use Rattle.paxos_packets.specs.Vote.{IsAscending, vote_in, put_votes, votes_from};
+ghost use Rattle.std.specs.Prelude.{◌≡◌, ◌≤◌, suc, length, IfOk, IfSome, OnOk, option_copied};
+ghost use Rattle.paxos_packets.specs.Vote.{IsAscending, vote_in, put_back, put_votes, votes_from};
 
 use crate::body::{Body, Memory};
 use crate::slot::Slot;
-use crate::vote::{Vote, Votes, copy_behind, find_in, forget_in, put_all_in_room};
+use crate::vote::{Vote, Votes, copy_behind, find_in, forget_in, put_all_in_room, put_back_in};
 use std::alloc::Global;
 use std::marker::Model;
 
@@ -84,6 +84,15 @@ impl<B: Drop> KeptVotes<B> {
         ensures { self.new.votes ≡ put_votes votes self.old.votes }
     {
         put_all_in_room(&mut self.list, votes.into_vec());
+    }
+
+    /// Puts another vote for the slot, or none, in the place of the one that is there; if there is none nothing changes. Finds it in a number
+    /// of steps logarithmic in the number of votes; without another vote those of later slots are moved. Does not allocate.
+    pub fn put_back(&mut self, slot: Slot, other: Option<Vote<B>>)
+        requires { IfSome other (λ vote. vote.slot ≡ slot) }
+        ensures { self.new.votes ≡ put_back slot other self.old.votes }
+    {
+        put_back_in(&mut self.list, slot.get(), other);
     }
 
     /// Forgets the votes in slots up to this floor, and keeps their memory. Takes a number of steps that grows with the votes. Does not

@@ -6,7 +6,7 @@ ghost use Rattle.paxos_packets.specs.Members.{IsMajority, IsMember};
 ghost use Rattle.paxos_packets.specs.Body.{IsEquality};
 ghost use Rattle.paxos_packets.specs.Entry.{same_entry};
 ghost use Rattle.paxos_packets.specs.Packet.{same_packet};
-ghost use Rattle.paxos_packets.specs.Vote.{same_vote, IsAscending, put_vote, vote_in};
+ghost use Rattle.paxos_packets.specs.Vote.{same_vote, IsAscending, put_back, put_vote, vote_in};
 ghost use Rattle.paxos_packets.specs.declared.ballot.Ballot.{Ballot};
 ghost use Rattle.paxos_packets.specs.declared.vote.Vote.{Vote};
 
@@ -28,6 +28,11 @@ pub fn votes_are_put<B>()
     ensures found { (v : Vote B) (vs : List (Vote B)) (slot : ℕ)
         → vote_in slot (put_vote v vs) ≡ (if v.slot == slot then Some v else vote_in slot vs) }
     ensures ascending { (v : Vote B) (vs : List (Vote B)) → IsAscending vs → IsAscending (put_vote v vs) }
+{}
+
+/// What a slot had before a vote was put there, put back, gives the votes of before.
+pub fn votes_are_put_back<B>()
+    ensures { (v : Vote B) (vs : List (Vote B)) → IsAscending vs → put_back v.slot (vote_in v.slot vs) (put_vote v vs) ≡ vs }
 {}
 
 /// If the test of bodies is equality, so are those of entries, votes and packets.

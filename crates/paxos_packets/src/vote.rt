@@ -1,10 +1,10 @@
 //! Votes and lists of them by slot: how they are found, put, copied and compared.
 
 ghost use Rattle.std.specs.Prelude.{◌≡◌, ◌+◌, ◌<◌, ◌≤◌, ℕ, suc, [], ◌∷◌, ◌++◌, length, None, option_copied, is_some, is_ok};
-ghost use Rattle.std.specs.Prelude.{IsOk, IsTrue, vec_len, vec_capacity, IfOk, IfErr, OnOk, OnErr};
+ghost use Rattle.std.specs.Prelude.{IsOk, IsTrue, vec_len, vec_capacity, IfOk, IfErr, IfSome, OnOk, OnErr};
 ghost use Rattle.std.specs.Cmp.Lexicographic.{pointwise};
 ghost use Rattle.paxos_packets.specs.Vote.{same_vote, vote_equality, votes_equality, IsAscending, place, vote_in};
-ghost use Rattle.paxos_packets.specs.Vote.{put_vote, put_votes, votes_from};
+ghost use Rattle.paxos_packets.specs.Vote.{put_back, put_vote, put_votes, votes_from};
 
 use crate::ballot::Ballot;
 use crate::body::{Body, Memory};
@@ -283,4 +283,21 @@ pub(crate) fn forget_in<B: Drop>(votes: &mut Vec<Vote<B>>, floor: u64)
     ensures capacity { vec_capacity votes.new ≡ vec_capacity votes.old }
 {
     votes.retain(|vote| floor < vote.slot.get());
+}
+
+// Puts another vote for the slot, or none, in the place of the one that is there, if one is.
+pub(crate) fn put_back_in<B: Drop>(votes: &mut Vec<Vote<B>>, slot: u64, other: Option<Vote<B>>)
+    requires ascends { IsAscending votes.old.items }
+    requires slot { IfSome other (λ vote. vote.slot ≡ slot) }
+    ensures votes { votes.new.items ≡ put_back slot other votes.old.items }
+    ensures ascending { IsAscending votes.new.items }
+{
+    let Ok(place) = seek(votes, slot) else {
+        drop(other);
+        return;
+    };
+    match other {
+        Some(vote) => votes[place] = vote,
+        None => drop(votes.remove(place)),
+    }
 }

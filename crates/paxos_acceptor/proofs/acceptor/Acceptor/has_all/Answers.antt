@@ -1,4 +1,4 @@
-use Rattle.std.proofs.Common.{◌≡◌, true, rules, sym, ◌∙◌}
+use Rattle.std.proofs.Common.{◌≡◌, rules, ◌∙◌}
 use Rattle.paxos_packets.specs.Body.{IsEquality}
 use Rattle.paxos_packets.specs.Vote.{IsAscending}
 use Rattle.paxos_acceptor.specs.Acceptor.{has_all}
