@@ -1,5 +1,5 @@
 -- What is made of a planned outcome, step after step.
-use Rattle.std.proofs.Common.{◌≡◌, ℕ, Bool, not, true, false, cond, Option, Some, None, Result, Ok, Err, List, [], ◌++◌, sym, ap, subst, ◌∙◌, refl}
+use Rattle.std.proofs.Common.{◌≡◌, ℕ, Bool, not, true, false, cond, Option, Some, Result, Ok, Err, List, [], ◌++◌, sym, ap, subst, ◌∙◌, refl}
 use Rattle.std.specs.Prelude.{OnErr}
 use Rattle.std.proofs.lemmas.Bool.{false≢true}
 use Rattle.std.proofs.lemmas.List.{append-nil}
@@ -18,7 +18,8 @@ use Rattle.paxos_node.specs.Adopting.{adopted, goes_on, stays_up}
 use Rattle.paxos_node.specs.Applying.{down}
 use Rattle.actor_parts.specs.declared.fault.ActorFault.{ActorFault}
 use Rattle.actor_parts.specs.declared.fault.ActorFault.TheVariants.{Failed, Rounds, Full, Keeper, Disagree, LostHere, Worn, Memory}
-use Rattle.actor_parts.specs.Parts.{Parted, IsPrefixOf, IsPlan, IsSound}
+use Rattle.actor_parts.specs.Parts.{Parted, IsPrefixOf, IsSound}
+use Rattle.actor_parts.specs.declared.tried.FailedCommit.TheVariants.{One}
 use Rattle.actor_parts.specs.Steps.{IsAtEnd, Applied, OnlyNode, OnlyKeeper, OnlyLog, OnlyWaiting, next_node, Adopts, StaysWho, AnswersUp, Takes, TakesNot, TakesIn}
 
 -- a node that adopts an outcome has the rows with its change, is up unless the outcome says otherwise, and has applied its entries after what it
@@ -76,21 +77,15 @@ module _ {B M K : Type 0} where
 
   pub sound_spoiled : (same : B → B → Bool) (holds : K → Rows B → Type 0) (is_failed : K → Bool) (old new : Parted B M K)
       → IsSound same holds is_failed old → StaysWho old new → new.spoiled ≡ true
-      → ((o : Outcome B) → new.failed ≡ Some o → IsPlan same new.node.me new.node.members new.node.state o)
       → (new.node.state.up ≡ true → IsPrefixOf new.log.applied new.node.state.applied) → IsSound same holds is_failed new
-  sound_spoiled same holds is_failed old new sound who spoiled failed front =
+  sound_spoiled same holds is_failed old new sound who spoiled front =
       record {
         me = who.waits_me ∙ sound.me ∙ sym who.me;
         members = who.waits_members ∙ sound.members ∙ sym who.members;
         member = subst (λ n. IsMember n new.node.me) (sym who.members) (subst (IsMember old.node.members) (sym who.me) sound.member);
         serves = λ e. absurd (false≢true (sym e ∙ spoiled));
-        failed = failed;
         front = front;
       }
-
-  pub none_failed : (same : B → B → Bool) (a : Parted B M K) → a.failed ≡ None → (o : Outcome B) → a.failed ≡ Some o
-      → IsPlan same a.node.me a.node.members a.node.state o
-  none_failed same a none o some = absurd (let off : ◌≡◌ {A = Option (Outcome B)} None (Some o) = sym none ∙ some in cc)
 
   -- the actor is ready to adopt an outcome: there is room for it, it is committed, and the machine is to go on from this log
   pub record Ready (holds : K → Rows B → Type 0) (is_failed : K → Bool) (base : LogState B M) (o : Outcome B) (old new : Parted B M K) : Type 0 where
@@ -254,26 +249,15 @@ module _ {B M K : Type 0} (same : B → B → Bool) (holds : K → Rows B → Ty
       let who = roomed_who old mid r in
       sound_spoiled same holds is_failed old (record mid { spoiled = true }) sound
       (record { me = who.me; members = who.members; waits_me = who.waits_me; waits_members = who.waits_members }) refl
-      (none_failed same (record mid { spoiled = true }) (r.rest.failed ∙ (sound.serves fresh).committed))
       (λ up. prefix_whole mid.log.applied mid.node.state.applied
       (ap (λ (log : LogState B M). log.applied) r.rest.log ∙ (sound.serves fresh).followed ∙ ap (λ x. x.applied) (sym r.state)))
 
-  plan_on : (o p : Outcome B) (old new : Parted B M K) → IsPlan same old.node.me old.node.members old.node.state o → StaysWho old new
-      → new.node.state ≡ old.node.state → o ≡ p → IsPlan same new.node.me new.node.members new.node.state p
-  plan_on o p old new plan who state is =
-      subst (IsPlan same new.node.me new.node.members new.node.state) is
-      (subst (λ x. IsPlan same new.node.me new.node.members x o) (sym state)
-      (subst (λ n. IsPlan same new.node.me n old.node.state o) (sym who.members)
-      (subst (λ n. IsPlan same n old.node.members old.node.state o) (sym who.me) plan)))
-
   pub fallen_sound : (o : Outcome B) (old mid new : Parted B M K) → IsSound same holds is_failed old → old.spoiled ≡ false
-      → IsPlan same old.node.me old.node.members old.node.state o → Roomed old mid → OnlyKeeper mid new
-      → IsSound same holds is_failed (record new { failed = Some o; spoiled = true })
-  fallen_sound o old mid new sound fresh plan r k =
+      → Roomed old mid → OnlyKeeper mid new → IsSound same holds is_failed (record new { failed = Some (One o); spoiled = true })
+  fallen_sound o old mid new sound fresh r k =
       let who = kept_who old mid new r k in
-      sound_spoiled same holds is_failed old (record new { failed = Some o; spoiled = true }) sound
+      sound_spoiled same holds is_failed old (record new { failed = Some (One o); spoiled = true }) sound
       (record { me = who.me; members = who.members; waits_me = who.waits_me; waits_members = who.waits_members }) refl
-      (λ p e. plan_on o p old new plan who (ap (λ n. n.state) k.node ∙ r.state) (some_same o p e))
       (λ up. prefix_whole new.log.applied new.node.state.applied
       (ap (λ (log : LogState B M). log.applied) (k.log ∙ r.rest.log) ∙ (sound.serves fresh).followed
       ∙ ap (λ x. x.applied) (sym (ap (λ n. n.state) k.node ∙ r.state))))
@@ -281,7 +265,7 @@ module _ {B M K : Type 0} (same : B → B → Bool) (holds : K → Rows B → Ty
   pub spoiled_sound : (old : Parted B M K) → IsSound same holds is_failed old → old.spoiled ≡ false → IsSound same holds is_failed (record old { spoiled = true })
   spoiled_sound old sound fresh =
       sound_spoiled same holds is_failed old (record old { spoiled = true }) sound (record { me = refl; members = refl; waits_me = refl; waits_members = refl })
-      refl (none_failed same (record old { spoiled = true }) (sound.serves fresh).committed)
+      refl
       (λ up. prefix_whole old.log.applied old.node.state.applied (sound.serves fresh).followed)
 
 module _ {B M K : Type 0} where
@@ -291,7 +275,7 @@ module _ {B M K : Type 0} where
       record { me = who.me; members = who.members; waits_me = who.waits_me; waits_members = who.waits_members }
 
   pub fallen_who : (o : Outcome B) (old mid new : Parted B M K) → Roomed old mid → OnlyKeeper mid new
-      → StaysWho old (record new { failed = Some o; spoiled = true })
+      → StaysWho old (record new { failed = Some (One o); spoiled = true })
   fallen_who o old mid new r k =
       let who = kept_who old mid new r k in
       record { me = who.me; members = who.members; waits_me = who.waits_me; waits_members = who.waits_members }
@@ -319,6 +303,5 @@ module _ {B M K : Type 0} where
           committed = s.committed;
           ahead = s.ahead;
         };
-        failed = sound.failed;
         front = sound.front;
       })

@@ -3,3 +3,4 @@ pub mod Handing
 pub mod Fault
 pub mod Snapshots
 pub mod Steps
+pub mod Tried

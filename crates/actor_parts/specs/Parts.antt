@@ -15,6 +15,7 @@ use Rattle.paxos_node.specs.Held.{Held}
 use Rattle.paxos_node.specs.Plans.{plans}
 use Rattle.paxos_node.specs.Adopting.{Planned}
 use Rattle.actor_outboxes.specs.Outboxes.{Waiting}
+use Rattle.actor_parts.specs.declared.tried.FailedCommit.{FailedCommit}
 
 pub record Parted (B M K : Type 0) : Type 0 where
   pub node : Held B
@@ -22,8 +23,8 @@ pub record Parted (B M K : Type 0) : Type 0 where
   -- the packets that wait to go out
   pub waiting : Waiting B
   pub log : LogState B M
-  -- the outcome whose commit failed
-  pub failed : Option (Outcome B)
+  -- what a failed commit was to leave
+  pub failed : Option (FailedCommit B)
   -- whether a fault has ended it
   pub spoiled : Bool
 
@@ -88,5 +89,4 @@ module _ {B M K : Type 0} where
     pub members : a.waiting.members ≡ a.node.members
     pub member : IsMember a.node.members a.node.me
     pub serves : a.spoiled ≡ false → IsServing holds is_failed a
-    pub failed : (o : Outcome B) → a.failed ≡ Some o → IsPlan same a.node.me a.node.members a.node.state o
     pub front : a.node.state.up ≡ true → IsPrefixOf a.log.applied a.node.state.applied

@@ -6,8 +6,10 @@ mod fault;
 mod following;
 mod loading;
 mod parts;
+mod staging;
 mod storing;
 mod taking;
+mod tried;
 
 pub use actor_outboxes::Outboxes;
 pub use fault::ActorFault;
@@ -17,3 +19,4 @@ pub use paxos_node::{Event, Node, NodeFault, Outcome};
 pub use paxos_packets::{Ballot, Entry, Members, Packet, Rows, Snapshot};
 pub use replica_machine::{AppliedLog, LoadFault, Machine, SaveFault};
 pub use store_keeper::{Keeper, KeeperFault};
+pub use tried::{FailedCommit, Staged, Tried, TriedEvents};

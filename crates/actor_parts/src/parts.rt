@@ -10,6 +10,7 @@ ghost use Rattle.paxos_node.specs.Plans.{plans, unchanged, Answers};
 ghost use Rattle.paxos_proposer.specs.Proposer.{is_leading};
 ghost use Rattle.actor_outboxes.specs.Outboxes.{HasLimits, IsPeer, ManyTaken, TakenFor, WaitFirst, WaitsFirst, most_waiting, waiting};
 ghost use Rattle.actor_parts.specs.Parts.{Parted, IsPrefixOf, first_parts, is_late, open_slots};
+ghost use Rattle.actor_parts.specs.declared.tried.FailedCommit.TheVariants as failures;
 ghost use Rattle.actor_parts.specs.Steps.{IsAtEnd, Applied, Falls, OnlyNode, OnlyKeeper, OnlyLog, OnlyWaiting, Adopts};
 ghost use Rattle.actor_parts.specs.Snapshots.{base_log, is_no_log, unboxed, IsMadeOf};
 ghost use Rattle.paxos_node.specs.Snapshots.{may_cut};
@@ -24,6 +25,7 @@ ghost use Rattle.replica_machine.specs.Snapshot.{kept_octets, kept_of, loaded_lo
 use crate::following::apply_all;
 use crate::loading::load_log;
 use crate::storing::commit;
+use crate::tried::FailedCommit;
 use actor_outboxes::Outboxes;
 use paxos_node::{Event, Node, NodeFault, Outcome};
 use paxos_packets::{Ballot, Entries, Entry, Kind, Members, Memory, Packet, Rows};
@@ -35,16 +37,16 @@ use store_keeper::{Keeper, KeeperFault};
 /// What an actor is made of: a node, its store, the packets that wait to go out, and the machine that follows its log. What holds of an
 /// actor need not hold between the steps of an event, so the calls require it.
 pub struct Parts<M: Machine, K> {
-    alloc: Global,
-    node: Node<M::Body>,
-    keeper: K,
+    pub(crate) alloc: Global,
+    pub(crate) node: Node<M::Body>,
+    pub(crate) keeper: K,
     // How many commits were made.
-    commits: u64,
-    outboxes: Outboxes<M::Body>,
+    pub(crate) commits: u64,
+    pub(crate) outboxes: Outboxes<M::Body>,
     log: AppliedLog<M>,
-    // The outcome whose commit failed.
-    failed: Option<Outcome<M::Body>>,
-    spoiled: bool,
+    // What a failed commit was to leave.
+    pub(crate) failed: Option<FailedCommit<M::Body>>,
+    pub(crate) spoiled: bool,
 }
 
 impl<M: Machine, K: Drop> Drop for Parts<M, K> {
@@ -240,9 +242,9 @@ impl<M: Machine, K: Keeper<M::Body>> Parts<M, K> {
 
     /// Marks the actor as ended by the failed commit of this outcome, which is kept.
     pub fn spoil_at(&mut self, outcome: Outcome<M::Body>)
-        ensures { self.new ≡ record self.old { failed = Some outcome; spoiled = true } }
+        ensures { self.new ≡ record self.old { failed = Some (failures.One outcome); spoiled = true } }
     {
-        self.failed = Some(outcome);
+        self.failed = Some(FailedCommit::One { outcome });
         self.spoiled = true;
     }
 
@@ -453,8 +455,8 @@ impl<M: Machine, K: Keeper<M::Body>> Parts<M, K> {
         }
     }
 
-    /// Returns what is left of the node: its rows, the outcome whose commit failed, and the store.
-    pub fn leave_rows(self) -> (Rows<M::Body>, Option<Outcome<M::Body>>, K)
+    /// Returns what is left of the node: its rows, what a failed commit was to leave, and the store.
+    pub fn leave_rows(self) -> (Rows<M::Body>, Option<FailedCommit<M::Body>>, K)
         ensures rows { result.0 ≡ self.node.state.rows }
         ensures failed { result.1 ≡ self.failed }
         ensures keeper { result.2 ≡ self.keeper }

@@ -40,6 +40,10 @@ mod round_acts;
 #[cfg(test)]
 mod round_failing;
 #[cfg(test)]
+mod round_leading;
+#[cfg(test)]
+mod round_losing;
+#[cfg(test)]
 mod round_telling;
 #[cfg(test)]
 mod rounds;

@@ -62,3 +62,45 @@ impl RoundFeed<Number, Sum> for Acts {
         drop(says);
     }
 }
+
+/// Gives one Suspect of another node before a round.
+#[derive(Drop)]
+pub struct Suspects {
+    node: u8,
+    other: u8,
+    given: bool,
+}
+
+impl Suspects {
+    /// Creates a feed of this node that has given nothing.
+    pub fn of(node: u8, other: u8) -> Suspects {
+        Suspects {
+            node,
+            other,
+            given: false,
+        }
+    }
+}
+
+impl RoundFeed<Number, Sum> for Suspects {
+    ghost saw = { λ feed given got. Unit {0} };
+
+    fn next(&mut self, _seen: &RoundSeen<'_>) -> Option<Event<Number>>
+        ensures { Unit {0} }
+    {
+        if self.given {
+            return None;
+        }
+        self.given = true;
+        Some(Event::Suspect {
+            node: self.node,
+            other: self.other,
+        })
+    }
+
+    fn hand(&mut self, says: Vec<Sum>)
+        ensures { Unit {0} }
+    {
+        drop(says);
+    }
+}

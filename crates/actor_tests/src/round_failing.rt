@@ -13,8 +13,8 @@ use test_checks::{check, check_eq};
 
 const FIRST: Ballot = Ballot { round: 1, node: 1 };
 
-// Node 2 takes 5 and 6 in the round to which the Prepare of node 1 comes, whose commit fails. Both acts are made and wait for a slot, after its
-// boot; the promise is not made, nothing is said or posted, and the actor has ended.
+// Node 2 takes 5 and 6 in the round to which the Prepare of node 1 comes, whose commit fails. Neither act is made, and no promise; nothing is said
+// or posted, and the actor has ended.
 fn fails_in_round(rt: &impl Abort, actors: &mut [Counting<'_>]) {
     check_eq!(rt; fault_at(rt, actors, 1, Asked::Start), 0);
     check_eq!(rt; fault_at(rt, actors, 1, Asked::Turn), 0);
@@ -22,7 +22,7 @@ fn fails_in_round(rt: &impl Abort, actors: &mut [Counting<'_>]) {
     let second = at(rt, actors, 2);
     check_eq!(rt; second.run_rounds(&OneRound, &mut acts), 61);
     check_eq!(rt; acts.counts(), (2, 0));
-    check_eq!(rt; (second.pending_entries(), second.has_posted()), (3, false));
+    check_eq!(rt; (second.pending_entries(), second.has_posted()), (0, false));
     check!(rt; second.promised().is_none());
     for asked in [Asked::Turn, Asked::Tick] {
         check_eq!(rt; fault_at(rt, actors, 2, asked), 71);

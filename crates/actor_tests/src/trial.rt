@@ -6,8 +6,10 @@ use crate::posting_together::posts_together;
 use crate::refusing::{begins_again, first_does, refuses};
 use crate::rotating::rotates;
 use crate::round_failing::outlives_round;
+use crate::round_leading::outlives_leading;
+use crate::round_losing::loses_round;
 use crate::signs::shows;
-use crate::voting_twice::votes_twice;
+use crate::voting_twice::{Ends, votes_twice};
 use std::alloc::Global;
 use std::process::Abort;
 use store_keeper::MemKeeper;
@@ -21,6 +23,8 @@ pub enum Trial {
     Fails { node: u8, wanted: bool },
     Outlives,
     OutlivesRound { after: bool },
+    OutlivesLeading { after: bool },
+    LosesRound,
     CutsTwice,
     OutlivesCut { floor: u64, by_feed: bool },
     Fills,
@@ -28,7 +32,7 @@ pub enum Trial {
     Rotates,
     Shows,
     PostsTogether,
-    VotesTwice { fails: bool },
+    VotesTwice { ends: Ends },
     Restarts,
     Refuses,
 }
@@ -60,6 +64,8 @@ impl<R: Abort> Plays<Count, MemKeeper<Number>> for Trying<&R> {
             Trial::Fails { node, wanted } => fails(rt, alloc, actors.as_mut_slice(), node, wanted),
             Trial::Outlives => outlives(rt, alloc, actors),
             Trial::OutlivesRound { after } => outlives_round(rt, alloc, actors, after),
+            Trial::OutlivesLeading { after } => outlives_leading(rt, alloc, actors, after),
+            Trial::LosesRound => loses_round(rt, alloc, actors),
             Trial::CutsTwice => cuts_twice(rt, alloc, actors.as_mut_slice()),
             Trial::OutlivesCut { floor, by_feed } => outlives_cut(
                 rt, alloc, actors, floor, by_feed,
@@ -69,7 +75,7 @@ impl<R: Abort> Plays<Count, MemKeeper<Number>> for Trying<&R> {
             Trial::Rotates => rotates(rt, actors.as_mut_slice()),
             Trial::Shows => shows(rt, actors.as_mut_slice()),
             Trial::PostsTogether => posts_together(rt, actors.as_mut_slice()),
-            Trial::VotesTwice { fails } => votes_twice(rt, alloc, actors, fails),
+            Trial::VotesTwice { ends } => votes_twice(rt, alloc, actors, ends),
             Trial::Restarts => try_first(rt, alloc, actors, true),
             Trial::Refuses => try_first(rt, alloc, actors, false),
         }

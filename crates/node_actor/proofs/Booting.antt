@@ -1,7 +1,7 @@
 -- A boot begins, or does not.
-use Rattle.std.proofs.Common.{◌≡◌, ◌⊎◌, inl, inr, ⊎_elim, ◌<◌, ◌≤◌, ◌-◌, ◌^◌, ◌∙◌, ℕ, suc, Bool, true, false, cond, Option, Some, None}
+use Rattle.std.proofs.Common.{◌≡◌, ◌⊎◌, inl, inr, ⊎_elim, ◌<◌, ◌≤◌, ◌+◌, ◌^◌, ◌∙◌, ℕ, suc, Bool, true, false, cond, Option, Some, None}
 use Rattle.std.proofs.Common.{Result, Ok, Err, refl, sym, ap, subst, arith}
-use Rattle.std.specs.Prelude.{IfOk, IfErr, List, nat_lt}
+use Rattle.std.specs.Prelude.{IfOk, IfErr, List, nat_lt, is_some}
 use Rattle.std.proofs.lemmas.Bool.{and_from, and_parts, false≢true, leb-true, lt-ltb, ltb-true, ltb-false}
 use Rattle.paxos_packets.specs.Ballot.{ballot_same, ballot_sound}
 use Rattle.paxos_packets.specs.Body.{IsEquality}
@@ -16,7 +16,9 @@ use Rattle.store_keeper.specs.Keeper.{FindsOr}
 use Rattle.store_keeper.specs.declared.fault.KeeperFault.TheVariants as store
 use Rattle.mail_table.specs.Covered.{with_boot}
 use Rattle.actor_outboxes.specs.Outboxes.{Waiting}
-use Rattle.paxos_node.specs.declared.outcome.Outcome.{Outcome}
+use Rattle.paxos_packets.specs.declared.rows.Change.{Change}
+use Rattle.actor_parts.specs.Tried.{change_of}
+use Rattle.actor_parts.specs.declared.tried.FailedCommit.{FailedCommit}
 use Rattle.actor_parts.specs.declared.fault.ActorFault.{ActorFault}
 use Rattle.actor_parts.specs.declared.fault.ActorFault.TheVariants.{Keeper, Worn}
 use Rattle.node_actor.specs.Compare.{same_promise, same_base, is_ahead, is_later, is_meant, fit_of}
@@ -25,7 +27,8 @@ use Rattle.node_actor.specs.declared.compare.Fit.TheVariants.{Left, Meant, Other
 use Rattle.node_actor.specs.Posts.{Posted}
 use Rattle.node_actor.specs.Beginning.{IsLater, MayBegin, first_time, from_left, from_meant, IsEmpty, Boots}
 use Rattle.actor_parts.specs.Snapshots.{is_no_log}
-use Rattle.node_actor.specs.Preparing.{judge_of, Loads, Fits, anew, again, Found, found_left, found_meant, IsWorn, worn_left, worn_meant}
+use Rattle.node_actor.specs.Preparing.{change_in, count_in, judge_of, Loads, Fits, anew, again, Found, found_left, found_meant, IsWorn, worn_left}
+use Rattle.node_actor.specs.Preparing.{worn_meant}
 use Rattle.node_actor.specs.Preparing.{Refuses, others, worn, strayed, Readied}
 
 -- rows beside others
@@ -73,7 +76,7 @@ module _ {B : Type 0} (same : B → B → Bool) (ok : IsEquality same) where
       record { rows = rows_equal x (with_boot x.boot k) refl promises bases votes; later = omega (arith, low, high) }
 
 module _ {B : Type 0} (same : B → B → Bool) (k r : Rows B) where
-  fit_left : (f : Option (Outcome B)) → fit_of same f k r ≡ Left → is_ahead same k r ≡ true
+  fit_left : (f : Option (Change B)) → fit_of same f k r ≡ Left → is_ahead same k r ≡ true
   fit_left f h = go (is_ahead same k r) (is_meant same f k r) h
     where
       go : (a b : Bool) → cond {A = Fit} a Left (cond {A = Fit} b Meant Others) ≡ Left → a ≡ true
@@ -81,80 +84,90 @@ module _ {B : Type 0} (same : B → B → Bool) (k r : Rows B) where
       go false true h = absurd cc
       go false false h = absurd cc
 
-  fit_meant : (f : Option (Outcome B)) → fit_of same f k r ≡ Meant
-      → (o : Outcome B) × (f ≡ Some o) × (is_ahead same (accepting.adopted k o.change) r ≡ true)
-  fit_meant f h = from f refl (go (is_ahead same k r) (is_meant same f k r) h)
+  fit_meant : (f : Option (FailedCommit B)) → fit_of same (change_in f) k r ≡ Meant
+      → (m : FailedCommit B) × (f ≡ Some m) × (is_ahead same (accepting.adopted k (change_of m)) r ≡ true)
+  fit_meant f h = from f refl (go (is_ahead same k r) (is_meant same (change_in f) k r) h)
     where
       go : (a b : Bool) → cond {A = Fit} a Left (cond {A = Fit} b Meant Others) ≡ Meant → b ≡ true
       go true b h = absurd cc
       go false true h = refl
       go false false h = absurd cc
 
-      from : (g : Option (Outcome B)) → f ≡ g → is_meant same g k r ≡ true
-          → (o : Outcome B) × (f ≡ Some o) × (is_ahead same (accepting.adopted k o.change) r ≡ true)
-      from None e m = absurd (false≢true m)
-      from (Some o) e m = (o, e, m)
+      from : (g : Option (FailedCommit B)) → f ≡ g → is_meant same (change_in g) k r ≡ true
+          → (m : FailedCommit B) × (f ≡ Some m) × (is_ahead same (accepting.adopted k (change_of m)) r ≡ true)
+      from None e on = absurd (false≢true on)
+      from (Some m) e on = (m, e, on)
+
+-- a change is one of a commit that failed
+pub failed_some : {B : Type 0} (f : Option (FailedCommit B)) → is_some (change_in f) ≡ true → is_some f ≡ true
+failed_some None h = h
+failed_some (Some m) h = refl
 
 -- what the store has is judged
 
 module _ {Y : Type 0} where
-  judge_found : (fit : Fit) (n : ℕ) (m : Bool) → judge_of {Y = Y} fit n ≡ Ok m
-      → ((fit ≡ Left) × (m ≡ false) × (n < 2 ^ 62)) ⊎ ((fit ≡ Meant) × (m ≡ true) × (suc n < 2 ^ 62))
-  judge_found Others n m h = absurd cc
-  judge_found Left n m h = inl (go (nat_lt n (2 ^ 62)) refl h)
+  judge_found : (fit : Fit) (n count : ℕ) (m : Bool) → judge_of {Y = Y} fit n count ≡ Ok m
+      → ((fit ≡ Left) × (m ≡ false) × (n < 2 ^ 62)) ⊎ ((fit ≡ Meant) × (m ≡ true) × (n + count < 2 ^ 62))
+  judge_found Others n count m h = absurd cc
+  judge_found Left n count m h = inl (go (nat_lt n (2 ^ 62)) refl h)
     where
       go : (b : Bool) → nat_lt n (2 ^ 62) ≡ b → cond {A = Result Bool (ActorFault Y)} b (Ok false) (Err Worn) ≡ Ok m
           → (Left ≡ Left) × (m ≡ false) × (n < 2 ^ 62)
       go true e h = (refl, cc, ltb-true n (2 ^ 62) e)
       go false e h = absurd cc
-  judge_found Meant n m h = inr (go (nat_lt n (2 ^ 62 - 1)) refl h)
+  judge_found Meant n count m h = inr (go (nat_lt (n + count) (2 ^ 62)) refl h)
     where
-      go : (b : Bool) → nat_lt n (2 ^ 62 - 1) ≡ b → cond {A = Result Bool (ActorFault Y)} b (Ok true) (Err Worn) ≡ Ok m
-          → (Meant ≡ Meant) × (m ≡ true) × (suc n < 2 ^ 62)
-      go true e h = let low = ltb-true n (2 ^ 62 - 1) e in (refl, cc, omega (arith, low))
+      go : (b : Bool) → nat_lt (n + count) (2 ^ 62) ≡ b → cond {A = Result Bool (ActorFault Y)} b (Ok true) (Err Worn) ≡ Ok m
+          → (Meant ≡ Meant) × (m ≡ true) × (n + count < 2 ^ 62)
+      go true e h = (refl, cc, ltb-true (n + count) (2 ^ 62) e)
       go false e h = absurd cc
 
   -- a refusal: other rows, or a worn word
-  judge_refused : (fit : Fit) (n : ℕ) (f : ActorFault Y) → judge_of fit n ≡ Err f
-      → ((fit ≡ Others) × (f ≡ Keeper store.Damaged)) ⊎ ((f ≡ Worn) × (((fit ≡ Left) × (2 ^ 62 ≤ n)) ⊎ ((fit ≡ Meant) × (2 ^ 62 ≤ suc n))))
-  judge_refused Others n f h = inl (refl, cc)
-  judge_refused Left n f h = inr (go (nat_lt n (2 ^ 62)) refl h)
+  judge_refused : (fit : Fit) (n count : ℕ) (f : ActorFault Y) → judge_of fit n count ≡ Err f
+      → ((fit ≡ Others) × (f ≡ Keeper store.Damaged))
+      ⊎ ((f ≡ Worn) × (((fit ≡ Left) × (2 ^ 62 ≤ n)) ⊎ ((fit ≡ Meant) × (2 ^ 62 ≤ n + count))))
+  judge_refused Others n count f h = inl (refl, cc)
+  judge_refused Left n count f h = inr (go (nat_lt n (2 ^ 62)) refl h)
     where
       go : (b : Bool) → nat_lt n (2 ^ 62) ≡ b → cond {A = Result Bool (ActorFault Y)} b (Ok false) (Err Worn) ≡ Err f
-          → (f ≡ Worn) × (((Left ≡ Left) × (2 ^ 62 ≤ n)) ⊎ ((Left ≡ Meant) × (2 ^ 62 ≤ suc n)))
+          → (f ≡ Worn) × (((Left ≡ Left) × (2 ^ 62 ≤ n)) ⊎ ((Left ≡ Meant) × (2 ^ 62 ≤ n + count)))
       go true e h = absurd cc
       go false e h = (cc, inl (refl, ltb-false n (2 ^ 62) e))
-  judge_refused Meant n f h = inr (go (nat_lt n (2 ^ 62 - 1)) refl h)
+  judge_refused Meant n count f h = inr (go (nat_lt (n + count) (2 ^ 62)) refl h)
     where
-      go : (b : Bool) → nat_lt n (2 ^ 62 - 1) ≡ b → cond {A = Result Bool (ActorFault Y)} b (Ok true) (Err Worn) ≡ Err f
-          → (f ≡ Worn) × (((Meant ≡ Left) × (2 ^ 62 ≤ n)) ⊎ ((Meant ≡ Meant) × (2 ^ 62 ≤ suc n)))
+      go : (b : Bool) → nat_lt (n + count) (2 ^ 62) ≡ b → cond {A = Result Bool (ActorFault Y)} b (Ok true) (Err Worn) ≡ Err f
+          → (f ≡ Worn) × (((Meant ≡ Left) × (2 ^ 62 ≤ n)) ⊎ ((Meant ≡ Meant) × (2 ^ 62 ≤ n + count)))
       go true e h = absurd cc
-      go false e h = let low = ltb-false n (2 ^ 62 - 1) e in (cc, inr (refl, omega (arith, low)))
+      go false e h = (cc, inr (refl, ltb-false (n + count) (2 ^ 62) e))
+
+sums_are : {a b c d : ℕ} → a ≡ c → b ≡ d → a + b ≡ c + d
+sums_are p q = λ i. p i + q i
 
 module _ {B S Y K : Type 0} (same : B → B → Bool) (loaded : List ℕ → Option S) (holds finds : K → Rows B → Type 0) (is_faithful : K → Type 0)
     (failures : K → ℕ) (p : Posted B) (old mid : K) where
-  module _ (k r : Rows B) (fit : Fit) (n : ℕ) (some : p.rows ≡ Some k) (loads : Loads same holds finds is_faithful failures old mid r)
-      (fits : fit_of same p.failed k r ≡ fit) (counts : n ≡ p.seat.part.events) where
-    pub found_of : (res : Result (Rows B × Bool) (ActorFault Y)) → IfOk res (λ it. (it.0 ≡ r) × (judge_of {Y = Y} fit n ≡ Ok it.1))
+  module _ (k r : Rows B) (fit : Fit) (n count : ℕ) (some : p.rows ≡ Some k) (loads : Loads same holds finds is_faithful failures old mid r)
+      (fits : fit_of same (change_in p.failed) k r ≡ fit) (counts : n ≡ p.seat.part.events) (many : count ≡ count_in p.failed) where
+    pub found_of : (res : Result (Rows B × Bool) (ActorFault Y)) → IfOk res (λ it. (it.0 ≡ r) × (judge_of {Y = Y} fit n count ≡ Ok it.1))
         → IfOk res (λ it. Found same holds finds is_faithful failures p old mid it.0 it.1)
     found_of (Err f) h = tt
     found_of (Ok it) h =
         subst (λ y. Found same holds finds is_faithful failures p old mid y it.1) (sym h.0)
         (⊎_elim (λ x. found_left k some loads (fits ∙ x.0) x.1 (subst (λ e. e < 2 ^ 62) counts x.2))
-        (λ x. found_meant k some loads (fits ∙ x.0) x.1 (subst (λ e. suc e < 2 ^ 62) counts x.2)) (judge_found {Y = Y} fit n it.1 h.1))
+        (λ x. found_meant k some loads (fits ∙ x.0) x.1 (subst (λ e. e < 2 ^ 62) (sums_are counts many) x.2))
+        (judge_found {Y = Y} fit n count it.1 h.1))
 
-    pub refused_of : (res : Result (Rows B × Bool) (ActorFault Y)) → IfErr res (λ f. judge_of fit n ≡ Err f)
+    pub refused_of : (res : Result (Rows B × Bool) (ActorFault Y)) → IfErr res (λ f. judge_of fit n count ≡ Err f)
         → IfErr res (λ f. Refuses same loaded holds finds is_faithful failures p old mid f)
     refused_of (Ok it) h = tt
     refused_of (Err f) h =
         ⊎_elim (λ x. subst (λ g. Refuses same loaded holds finds is_faithful failures p old mid g) (sym x.1) (others k r some loads (fits ∙ x.0)))
         (λ x. subst (λ g. Refuses same loaded holds finds is_faithful failures p old mid g) (sym x.0) (worn (worn_of x.1)))
-        (judge_refused fit n f h)
+        (judge_refused fit n count f h)
       where
-        worn_of : (((fit ≡ Left) × (2 ^ 62 ≤ n)) ⊎ ((fit ≡ Meant) × (2 ^ 62 ≤ suc n)))
+        worn_of : (((fit ≡ Left) × (2 ^ 62 ≤ n)) ⊎ ((fit ≡ Meant) × (2 ^ 62 ≤ n + count)))
             → IsWorn same holds finds is_faithful failures p old mid
         worn_of (inl x) = worn_left k r some loads (fits ∙ x.0) (subst (λ e. 2 ^ 62 ≤ e) counts x.1)
-        worn_of (inr x) = worn_meant k r some loads (fits ∙ x.0) (subst (λ e. 2 ^ 62 ≤ suc e) counts x.1)
+        worn_of (inr x) = worn_meant k r some loads (fits ∙ x.0) (subst (λ e. 2 ^ 62 ≤ e) (sums_are counts many) x.1)
 
 -- a boot after that
 
@@ -173,10 +186,11 @@ module _ {B S K : Type 0} (same : B → B → Bool) (loaded : List ℕ → Optio
   may_found : IsEquality same → (r x : Rows B) (m : Bool) → Found same holds finds is_faithful failures p old mid r m
       → is_later same r x ≡ true → MayBegin p x m
   may_found ok r x m (found_left k some loads fits is counts) later = from_left k some is (later_is same ok k r x
-      (fit_left same k r p.failed fits) later) counts
+      (fit_left same k r (change_in p.failed) fits) later) counts
   may_found ok r x m (found_meant k some loads fits is counts) later =
-      let o = fit_meant same k r p.failed fits in
-      from_meant k o.0 some o.1 is (later_is same ok (accepting.adopted k o.0.change) r x o.2 later) counts
+      let meant = fit_meant same k r p.failed fits in
+      from_meant k meant.0 some meant.1 is (later_is same ok (accepting.adopted k (change_of meant.0)) r x meant.2 later)
+      (subst (λ f. p.seat.part.events + count_in f < 2 ^ 62) meant.1 counts)
 
   may_of : IsEquality same → (r x : Rows B) (m : Bool) → Fits same holds finds is_faithful failures p old mid r m
       → is_later same r x ≡ true → MayBegin p x m

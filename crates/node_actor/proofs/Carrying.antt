@@ -17,10 +17,11 @@ use Rattle.mail_table.specs.Seats.{Seated}
 use Rattle.actor_parts.specs.declared.fault.ActorFault.{ActorFault}
 use Rattle.actor_parts.specs.declared.fault.ActorFault.TheVariants.{Failed, Rounds, Full, Keeper, Disagree, LostHere, Worn, Memory}
 use Rattle.actor_parts.specs.Parts.{Parted, IsServing, IsSound}
+use Rattle.actor_parts.specs.declared.tried.FailedCommit.TheVariants.{One}
 use Rattle.actor_parts.specs.Snapshots.{IsBase}
 use Rattle.actor_parts.specs.Steps.{Falls, Applied, OnlyKeeper, next_node, StaysWho, Takes, TakesIn}
 use Rattle.actor_parts.proofs.Carrying.{next_rows, not_down, is_down, next_applied, prefix_whole}
-use Rattle.actor_parts.proofs.Carrying.{prefix_to, next_same, sound_spoiled, none_failed, Ready}
+use Rattle.actor_parts.proofs.Carrying.{prefix_to, next_same, sound_spoiled, Ready}
 use Rattle.actor_parts.proofs.Carrying.{Roomed, who_on}
 use Rattle.node_actor.specs.Actor.{acting}
 use Rattle.node_actor.specs.Posts.{advanced}
@@ -117,16 +118,15 @@ module _ {B S Y M K : Type 0} (steps : Steps B S Y) (content : M → S) (holds :
           committed = over.failed;
           ahead = h.2.end;
         };
-        failed = none_failed same new over.failed;
         front = λ up. prefix_whole new.log.applied new.node.state.applied followed;
       }
   sound_on base o old mid new s sound serving r is_base who (Err (LostHere says)) h =
       sound_spoiled same holds is_failed old new sound (who_on old mid new r.who who) h.1
-      (none_failed same new (h.2.failed ∙ r.failed ∙ serving.committed)) (λ up. absurd (false≢true (sym h.0 ∙ up)))
+      (λ up. absurd (false≢true (sym h.0 ∙ up)))
   sound_on base o old mid new s sound serving r is_base who (Err Memory) h =
       let node : new.node.state ≡ next_node o old = h.1.node ∙ next_same o old mid r.who.me r.who.members r.state in
       sound_spoiled same holds is_failed old new sound (who_on old mid new r.who who) h.0
-      (none_failed same new (h.1.failed ∙ r.failed ∙ serving.committed)) (λ up.
+      (λ up.
       let down_not : o.is_down ≡ false = not_down old.node.me old.node.members o old.node.state serving.up (ap (λ x. x.up) (sym node)
       ∙ up) in
       prefix_to new.log.applied (mid.log.applied ++ o.applied) new.node.state.applied h.1.front
@@ -170,7 +170,7 @@ module _ {B S Y M K : Type 0} (steps : Steps B S Y) (content : M → S) (holds :
   pub fallen : (base : LogState B M) (o : Outcome B) (old mid new : Parted B M K) (s : Seated B) (fault : KeeperFault) → may_advance s ≡ true
       → IsServing holds is_failed old → Roomed old mid → OnlyKeeper mid new
       → (holds mid.keeper mid.node.state.rows → Falls finds failures o.change mid.node.state.rows mid.keeper new.keeper fault)
-      → CarriesOut steps content holds finds failures base o (acting old s) (acting (record new { failed = Some o; spoiled = true }) s)
+      → CarriesOut steps content holds finds failures base o (acting old s) (acting (record new { failed = Some (One o); spoiled = true }) s)
       (Err (Keeper fault))
   fallen base o old mid new s fault may serving r k falls =
       let h = subst (λ (x : NodeState B). holds old.keeper x.rows) (sym r.state) serving.held in

@@ -23,7 +23,7 @@ use Rattle.node_actor.specs.Rounds.{Look, came, found_in, hearings, is_treated, 
 use Rattle.node_actor.specs.Turns.{StaysAt, tries_at}
 use Rattle.node_actor.specs.Views.{moved_by}
 use Rattle.node_actor.specs.declared.hearing.Hearing.{Hearing}
-use Rattle.node_actor.proofs.Making.{makes_of, passes_of}
+use Rattle.node_actor.proofs.MadeEvents.{makes_of, passes_of}
 use Rattle.node_actor.proofs.Tries.{tries_else}
 
 -- what a look leaves as it was

@@ -8,12 +8,13 @@ use Rattle.actor_outboxes.specs.Outboxes.{Waiting, waiting}
 use Rattle.replica_machine.specs.Log.{LogState}
 use Rattle.paxos_planning.specs.Node.{NodeState}
 use Rattle.actor_parts.specs.Snapshots.{is_no_log}
+use Rattle.actor_parts.specs.declared.tried.FailedCommit.{FailedCommit}
+use Rattle.actor_parts.specs.declared.tried.FailedCommit.TheVariants.{One, Round}
 use Rattle.node_actor.specs.Snapshots.{IsFirstLog}
 use Rattle.node_actor.proofs.Starting.{first_follows}
 use Rattle.replica_machine.specs.Replay.{Steps}
 use Rattle.paxos_node.specs.Applying.{started}
 use Rattle.paxos_node.specs.Held.{Held}
-use Rattle.paxos_node.specs.declared.outcome.Outcome.{Outcome}
 use Rattle.paxos_node.specs.declared.view.Opened.{Opened}
 use Rattle.paxos_node.specs.declared.view.Opened.TheVariants.{Never, With}
 use Rattle.mail_table.specs.Seats.{Seated}
@@ -24,22 +25,24 @@ use Rattle.node_actor.specs.Beginning.{Begins, seat_before}
 use Rattle.node_actor.specs.Preparing.{Returns, HasOthers}
 use Rattle.node_actor.proofs.Renewing.{left_renewed}
 use Rattle.node_actor.proofs.Restarting.{returns_of}
+use Rattle.node_actor.proofs.TriedEvents.{advanced_stays}
 use Rattle.node_actor.specs.Actor.{Acting, acting, IsSeated}
 use Rattle.node_actor.specs.Restarts.{Opens, OpensFirst, Resumes}
 use Rattle.node_actor.specs.Views.{View, posted_to, received_from, StandsFor}
 
-node_at : {B : Type 0} (p : Posted B) (r : Rows B) (meant : Bool) (f : Option (Outcome B)) → p.seat.part.me ≡ p.me
-    → (renewed r (seat_before meant f p.seat)).part.seen.node ≡ started p.me r
-node_at p r true (Some o) e = ap (λ n. started n r) e
-node_at p r true None e = ap (λ n. started n r) e
-node_at p r false f e = ap (λ n. started n r) e
+node_at : {B : Type 0} (same : B → B → Bool) (p : Posted B) (r : Rows B) (meant : Bool) (f : Option (FailedCommit B)) → p.seat.part.me ≡ p.me
+    → (renewed r (seat_before same meant f p.seat)).part.seen.node ≡ started p.me r
+node_at same p r true (Some (One o)) e = ap (λ n. started n r) e
+node_at same p r true (Some (Round c ts)) e = ap (λ n. started n r) ((advanced_stays same ts p.seat).me ∙ e)
+node_at same p r true None e = ap (λ n. started n r) e
+node_at same p r false f e = ap (λ n. started n r) e
 
 module _ {B M K : Type 0} (same : B → B → Bool) (holds : K → Rows B → Type 0) (is_faithful : K → Type 0) (is_failed : K
     → Bool) (p : Posted B)
     (old keeper : K) (h : Held B) (w : Waiting B) (s : Seated B) (log : LogState B M) (left : IsLeft same p)
-    (b : Begins holds is_faithful is_failed p old keeper h w s) where
+    (b : Begins same holds is_faithful is_failed p old keeper h w s) where
   node_is : s.part.seen.node ≡ h.state
-  node_is = ap (λ z. z.part.seen.node) b.renews.seat ∙ node_at p b.renews.rows b.renews.meant p.failed left.me ∙ sym b.node.state
+  node_is = ap (λ z. z.part.seen.node) b.renews.seat ∙ node_at same p b.renews.rows b.renews.meant p.failed left.me ∙ sym b.node.state
 
   none_waits : (k : ℕ) → All (Contains s.part.seen.sent) (waiting k w)
   none_waits k = subst (All (Contains s.part.seen.sent)) (sym (b.empty.waits k)) (All-nil (Contains s.part.seen.sent))
@@ -50,7 +53,8 @@ module _ {B M K : Type 0} (same : B → B → Bool) (holds : K → Rows B → Ty
       record {
         me = on.me ∙ sym b.node.me;
         members = on.members ∙ sym b.node.members;
-        node = node_is;
+        node = λ up. node_is;
+        same_rows = ap (λ x. x.rows) node_is;
         rows = on.rows.1.0;
         opened = on.rows.1.1;
         waits = λ k peer. none_waits k;
@@ -59,13 +63,13 @@ module _ {B M K : Type 0} (same : B → B → Bool) (holds : K → Rows B → Ty
 
   pub opens_first : {S Y : Type 0} (steps : Steps B S Y) (content : M → S) (loaded : List ℕ → Option S) (machine : M)
       → IsFirstLog content loaded machine h.state.rows.snapshot log
-      → Opens steps content loaded holds is_faithful p machine old (acting (first_parts h keeper w log) s)
+      → Opens same steps content loaded holds is_faithful p machine old (acting (first_parts h keeper w log) s)
   opens_first steps content loaded machine begins =
       let begun : IsFirstLog content loaded machine b.renews.rows.snapshot log =
       subst (λ (x : NodeState B). IsFirstLog content loaded machine x.rows.snapshot log) b.node.state begins in
       record {
         renews = b.renews;
-        stands = record { seat = refl; node = sym node_is; waits = λ k peer. none_waits k };
+        stands = record { seat = refl; node = λ up. sym node_is; rows = ap (λ x. x.rows) (sym node_is); waits = λ k peer. none_waits k };
         node = b.node.state;
         who = (b.node.me, b.node.members);
         waits = b.empty.waits;
@@ -105,7 +109,7 @@ module _ {B M K : Type 0} (same : B → B → Bool) (p : Posted B) (v : View B) 
 
   pub resumes_of : {S Y : Type 0} (steps : Steps B S Y) (content : M → S) (loaded : List ℕ → Option S) (holds : K → Rows B → Type 0)
       (is_faithful : K → Type 0) (machine : M)
-      (keeper : K) → IsLeft same p → LeftOf same p v → Opens steps content loaded holds is_faithful p machine keeper a → holds keeper r
+      (keeper : K) → IsLeft same p → LeftOf same p v → Opens same steps content loaded holds is_faithful p machine keeper a → holds keeper r
       → is_faithful a.keeper
       → Resumes same p v r a
   resumes_of steps content loaded holds is_faithful machine keeper left of n held true_to =
@@ -124,16 +128,16 @@ never_others {B} same loaded p r first none (inr h) = absurd (let off : ◌≡�
 opened_first : {B : Type 0} (r : Rows B) (o : Opened B) → o ≡ Never → opened_with r o ≡ With r
 opened_first r o e = subst (λ x. opened_with r x ≡ With r) (sym e) refl
 
-first_seat : {B : Type 0} (meant : Bool) (s : Seated B) → seat_before meant None s ≡ s
-first_seat true s = refl
-first_seat false s = refl
+first_seat : {B : Type 0} (same : B → B → Bool) (meant : Bool) (s : Seated B) → seat_before same meant None s ≡ s
+first_seat same true s = refl
+first_seat same false s = refl
 
-pub first_of : {B M K S Y : Type 0} (steps : Steps B S Y) (content : M → S) (loaded : List ℕ → Option S) (holds : K → Rows B → Type 0)
+pub first_of : {B M K S Y : Type 0} (same : B → B → Bool) (steps : Steps B S Y) (content : M → S) (loaded : List ℕ → Option S) (holds : K → Rows B → Type 0)
     (is_faithful : K → Type 0) (me members : ℕ) (s : Seated B) (machine : M) (keeper : K) (a : Acting B M K) → s.part.me ≡ me → s.part.seen.opened ≡ Never
-    → Opens steps content loaded holds is_faithful (record { me = me; members = members; rows = None; failed = None; seat = s }) machine keeper a
+    → Opens same steps content loaded holds is_faithful (record { me = me; members = members; rows = None; failed = None; seat = s }) machine keeper a
     → OpensFirst holds me s a
-first_of steps content loaded holds is_faithful me members s machine keeper a is never n =
-    let seat : a.seat ≡ renewed n.renews.rows s = n.renews.seat ∙ ap (renewed n.renews.rows) (first_seat n.renews.meant s) in
+first_of same steps content loaded holds is_faithful me members s machine keeper a is never n =
+    let seat : a.seat ≡ renewed n.renews.rows s = n.renews.seat ∙ ap (renewed n.renews.rows) (first_seat same n.renews.meant s) in
     record {
       rows = n.renews.rows;
       held = n.renews.boots.held;

@@ -1,8 +1,8 @@
 -- A restart among the events of the core, and why one is refused.
 use Rattle.std.proofs.Common.{◌≡◌, inl, inr, ⊎_elim, ◌<◌, ◌≤◌, ◌+◌, ◌-◌, ◌++◌, ◌∙◌, append-nil, ℕ, zero, suc, Bool, true, false, not}
 use Rattle.std.proofs.Common.{Some, None, [], ◌∷◌, refl, sym, ap, subst, arith}
-use Rattle.std.proofs.lemmas.Bool.{and_from, and_parts, lt-ltb}
-use Rattle.std.specs.Prelude.{◌==◌, List, Option}
+use Rattle.std.proofs.lemmas.Bool.{and_from, lt-ltb}
+use Rattle.std.specs.Prelude.{List, Option}
 use Rattle.paxos_packets.specs.Rows.{last_boot, raised}
 use Rattle.paxos_packets.specs.declared.rows.Rows.{Rows}
 use Rattle.paxos_acceptor.specs.Acceptor as accepting
@@ -10,41 +10,34 @@ use Rattle.store_keeper.specs.Keeper.{FindsOr}
 use Rattle.store_keeper.specs.declared.fault.KeeperFault.{KeeperFault}
 use Rattle.store_keeper.specs.declared.fault.KeeperFault.TheVariants as store
 use Rattle.actor_outboxes.specs.Outboxes.{Waiting}
-use Rattle.paxos_node.specs.Adopting.{adopted}
 use Rattle.paxos_node.specs.Applying.{started, down}
-use Rattle.paxos_node.specs.Events.{owner, possible, outcome_of}
 use Rattle.paxos_node.specs.Held.{Held}
-use Rattle.paxos_node.specs.Plans.{is_planned}
 use Rattle.paxos_node.specs.View.{Viewed, moved}
-use Rattle.paxos_node.specs.declared.event.Event.{Event}
 use Rattle.paxos_node.specs.declared.event.Event.TheVariants.{Crash}
-use Rattle.paxos_node.specs.declared.outcome.Outcome.{Outcome}
 use Rattle.paxos_node.specs.declared.view.Opened.TheVariants.{With}
 use Rattle.paxos_planning.specs.Node.{NodeState}
 use Rattle.mail_table.specs.Seats.{Seated}
-use Rattle.actor_parts.specs.Parts.{IsPlan}
+use Rattle.actor_parts.specs.Tried.{change_of}
+use Rattle.actor_parts.specs.declared.tried.FailedCommit.{FailedCommit}
 use Rattle.actor_parts.specs.declared.fault.ActorFault.{ActorFault}
 use Rattle.actor_parts.specs.declared.fault.ActorFault.TheVariants.{Failed, Rounds, Full, Keeper, Disagree, LostHere, Worn, Memory}
 use Rattle.node_actor.specs.Compare.{fit_of}
 use Rattle.node_actor.specs.declared.compare.Fit.TheVariants.{Others}
 use Rattle.node_actor.specs.declared.preparing.Ready.{Ready}
-use Rattle.node_actor.specs.Posts.{Posted, LeftOf, IsLeft, renewed}
+use Rattle.node_actor.specs.Posts.{Posted, LeftOf, IsLeft, renewed, stepped}
 use Rattle.node_actor.specs.Beginning.{IsLater, MayBegin, first_time, from_left, from_meant, seat_before, IsNodeOf, MayKeepFrom, Starts}
 use Rattle.node_actor.specs.Beginning.{Begins, Renews, Leaves, begun}
-use Rattle.node_actor.specs.Preparing.{raises, restarts, comes_back, moved_by_all, ArePossible, as_left, as_meant, Returns, HasOthers}
+use Rattle.node_actor.specs.Preparing.{raises, restarts, comes_back, moved_by_all, node_after, ArePossible, as_left, as_meant, change_in}
+use Rattle.node_actor.specs.Preparing.{Returns, HasOthers}
 use Rattle.node_actor.specs.Preparing.{Stays, Fits, IsWorn, worn_first, worn_left, worn_meant, IsUnmade, Refuses, unread, others}
 use Rattle.node_actor.specs.Preparing.{unjudged, worn, unread_first, unmade, unbooted, strayed, Readied}
 use Rattle.mail_table.specs.Views.{opened_with, reopened}
 use Rattle.paxos_node.specs.declared.view.Opened.{Opened}
-use Rattle.std.proofs.lemmas.Bool.{eqb-true}
-use Rattle.std.proofs.Common.{eqb}
-use Rattle.paxos_node.specs.Plans.{plans}
-use Rattle.paxos_node.specs.Adopting.{Planned}
-use Rattle.node_actor.specs.Posts.{advanced}
 use Rattle.node_actor.proofs.Booting.{loads_of}
 use Rattle.actor_parts.specs.Snapshots.{is_no_log}
 use Rattle.paxos_packets.specs.Snapshot as taken
-use Rattle.node_actor.proofs.Renewing.{rows_behind, rows_of_some}
+use Rattle.node_actor.proofs.Renewing.{leads_at, rows_of_some}
+use Rattle.node_actor.proofs.StepsMeant.{moved_append, node_moved, opened_still, possible_append}
 
 -- what is there once a boot has begun
 
@@ -56,8 +49,8 @@ module _ {B S K : Type 0} (same : B → B → Bool) (loaded : List ℕ → Optio
       unbooted Memory r.mid r.rows ready.meant (λ e. absurd cc) r.fits r.readable (record { may = tt; found = r.found })
       (record { faithful = r.faithful; sound = λ f x held e. absurd cc })
 
-  abbrev renews_of : (s : Seated B) → s ≡ renewed ready.rows (seat_before ready.meant p.failed p.seat)
-      → Renews holds is_faithful p old new s
+  abbrev renews_of : (s : Seated B) → s ≡ renewed ready.rows (seat_before same ready.meant p.failed p.seat)
+      → Renews same holds is_faithful p old new s
   renews_of s e = record { rows = ready.rows; boots = r.boots; meant = ready.meant; may = r.may; seat = e }
 
   pub leaves_late : {Y : Type 0} (q : Posted B)
@@ -67,16 +60,16 @@ module _ {B S K : Type 0} (same : B → B → Bool) (loaded : List ℕ → Optio
         rows = Some ready.rows;
         failed = None;
         seat = renewed ready.rows
-            (seat_before ready.meant p.failed p.seat);
+            (seat_before same ready.meant p.failed p.seat);
       }
-      → Leaves holds is_faithful {Y = Y} p old new q Memory
+      → Leaves same holds is_faithful {Y = Y} p old new q Memory
   leaves_late q e =
-      let seat : q.seat ≡ renewed ready.rows (seat_before ready.meant p.failed p.seat) = ap (λ (x : Posted B). x.seat) e in
+      let seat : q.seat ≡ renewed ready.rows (seat_before same ready.meant p.failed p.seat) = ap (λ (x : Posted B). x.seat) e in
       begun (renews_of q.seat seat)
       (e ∙ (λ i. record { me = p.me; members = p.members; rows = Some ready.rows; failed = None; seat = sym seat i }))
 
   pub begins_of : (h : Held B) (w : Waiting B) (s : Seated B) → IsNodeOf p.me p.members ready.rows h → w ≡ ready.outboxes
-      → s ≡ renewed ready.rows (seat_before ready.meant p.failed p.seat) → Begins holds is_faithful is_failed p old new h w s
+      → s ≡ renewed ready.rows (seat_before same ready.meant p.failed p.seat) → Begins same holds is_faithful is_failed p old new h w s
   begins_of h w s node boxes e = record { renews = renews_of s e; node = node; whole = r.whole; empty = rw boxes r.empty }
 
 -- rows this many boots on
@@ -153,12 +146,6 @@ reopened_is : {B : Type 0} (n me : ℕ) (r q x : Rows B) (s : Viewed B) → n �
     → reopened n r s ≡ record { opened = s.opened; node = started me x; sent = s.sent }
 reopened_is n me r q x s is e rows = λ i. record { opened = with_still r q s.opened e i; node = started (is i) (rows i); sent = s.sent }
 
-planned_is : {B : Type 0} (same : B → B → Bool) (members me : ℕ) (e : Event B) (x : NodeState B) (o : Outcome B) → plans me e x ≡ true
-    → Planned same members e x o
-    → adopted me members o x ≡ (outcome_of same members e x).node
-planned_is same members me e x o plan planned =
-    ap (λ n. adopted n members o x) (sym (eqb-true (owner e) me (and_parts (eqb (owner e) me) _ plan).0)) ∙ planned.node
-
 module _ {B : Type 0} (same : B → B → Bool) (p : Posted B) (left : IsLeft same p) (s : Seated B) (r rows : Rows B) (is : rows ≡ raised r)
     (within : rows.boot ≤ last_boot) where
   low : (raised r).boot ≤ last_boot
@@ -182,63 +169,62 @@ module _ {B : Type 0} (same : B → B → Bool) (p : Posted B) (left : IsLeft sa
         received = ap (λ z. z.part.received) seat;
       }
 
-  meant_returns : (q : Rows B) → p.seat.part.seen.opened ≡ With q → (d : ℕ) (o : Outcome B) → p.failed ≡ Some o
-      → IsPlan same p.me p.members p.seat.part.seen.node o → r ≡ raises d (accepting.adopted p.seat.part.seen.node.rows o.change)
-      → s ≡ renewed rows (advanced o p.seat) → Returns same p r p.seat s
-  meant_returns q opened d o failed plan e seat =
+  meant_returns : (q : Rows B) → p.seat.part.seen.opened ≡ With q → (d : ℕ) (m : FailedCommit B) → p.failed ≡ Some m
+      → r ≡ raises d (accepting.adopted p.seat.part.seen.node.rows (change_of m)) → s ≡ renewed rows (stepped same m p.seat)
+      → Returns same p r p.seat s
+  meant_returns q opened d m failed e seat =
       let x = p.seat.part.seen.node in
-      let y = (outcome_of same p.members plan.event x).node in
-      let node : adopted p.seat.part.me p.seat.members o x ≡ y =
-      ap (λ n. adopted n p.seat.members o x) left.me ∙ ap (λ n. adopted p.me n o x) left.members
-      ∙ planned_is same p.members p.me plan.event x o plan.plans plan.planned in
-      let packets : o.packets ≡ (outcome_of same p.members plan.event x).packets = plan.planned.packets in
-      let on : r ≡ raises d y.rows = e ∙ ap (raises d) (sym (rows_behind p.seat.part.me p.seat.members o x) ∙ ap (λ z. z.rows) node) in
-      let may : possible plan.event x ≡ true = (and_parts (is_planned plan.event) _ (and_parts
-      (owner plan.event == p.me) _ plan.plans).1).1 in
+      let on = leads_at same p left m failed in
+      let t = stepped same m p.seat in
+      let y = node_after same p.members on.events x in
+      let back = comes_back p.me y.up d in
+      let after = moved_by_all same p.members on.events p.seat.part.seen in
+      let behind : r ≡ raises d y.rows = e ∙ ap (raises d) (sym on.rows) in
+      let there : r ≡ raises d after.node.rows =
+      behind ∙ ap (λ (z : NodeState B). raises d z.rows) (sym (node_moved same p.members on.events p.seat.part.seen)) in
       record {
-        events = plan.event ∷ comes_back p.me y.up d;
-        comes = as_meant d o plan.event failed plan.plans plan.planned e;
-        possible = (may, comes_possible same p.members p.me d y.up y refl (below_last d y.rows r on low));
-        moved = ap (λ z. z.part.seen) seat
-            ∙ (λ i. reopened p.seat.part.me rows (moved (node i) (packets i) p.seat.part.seen))
-            ∙ reopened_is p.seat.part.me p.me rows q (raised (raises d y.rows)) (moved y
-            (outcome_of same p.members plan.event x).packets p.seat.part.seen) left.me opened
-            (is ∙ ap raised on)
-            ∙ sym (comes_to same p.members p.me d y.up (moved y (outcome_of same p.members plan.event x).packets p.seat.part.seen));
-        me = ap (λ z. z.part.me) seat;
-        members = ap (λ z. z.members) seat;
-        posted = ap (λ z. z.part.posted) seat;
-        received = ap (λ z. z.part.received) seat;
+        events = on.events ++ back;
+        comes = as_meant d m on.events failed on.of_it e;
+        possible = possible_append same p.members on.events back x on.possible
+            (comes_possible same p.members p.me d y.up y refl (below_last d y.rows r behind low));
+        moved = ap (λ (z : Seated B). z.part.seen) seat
+            ∙ ap (reopened t.part.me rows) on.sees
+            ∙ reopened_is t.part.me p.me rows q (raised (raises d after.node.rows)) after (on.stays.me ∙ left.me)
+            (opened_still same p.members on.events p.seat.part.seen ∙ opened) (is ∙ ap raised there)
+            ∙ sym (comes_to same p.members p.me d y.up after)
+            ∙ sym (moved_append same p.members on.events back p.seat.part.seen);
+        me = ap (λ (z : Seated B). z.part.me) seat ∙ on.stays.me;
+        members = ap (λ (z : Seated B). z.members) (seat ∙ ap (renewed rows) on.stays.table);
+        posted = ap (λ (z : Seated B). z.part.posted) seat ∙ on.stays.posted;
+        received = ap (λ (z : Seated B). z.part.received) seat ∙ on.stays.received;
       }
 
-  returns_at : p.rows ≡ Some p.seat.part.seen.node.rows → ((o : Outcome B) → p.failed ≡ Some o
-      → IsPlan same p.me p.members p.seat.part.seen.node o)
-      → (meant : Bool) → MayBegin p rows meant → s ≡ renewed rows (seat_before meant p.failed p.seat) → Returns same p r p.seat s
-  returns_at some plans meant (first_time none off counts) seat = let both : None ≡ Some p.seat.part.seen.node.rows = sym none
+  returns_at : p.rows ≡ Some p.seat.part.seen.node.rows → (meant : Bool) → MayBegin p rows meant
+      → s ≡ renewed rows (seat_before same meant p.failed p.seat) → Returns same p r p.seat s
+  returns_at some meant (first_time none off counts) seat = let both : None ≡ Some p.seat.part.seen.node.rows = sym none
       ∙ some in absurd cc
-  returns_at some plans meant (from_left k kept off later counts) seat =
+  returns_at some meant (from_left k kept off later counts) seat =
       let both : Some k ≡ Some p.seat.part.seen.node.rows = sym kept ∙ some in
       let k_is : k ≡ p.seat.part.seen.node.rows = cc in
       let opened = (rows_of_some p.rows k p.seat.part.seen kept left.rows).1 in
       let d = later_raises p.seat.part.seen.node.rows r (subst (λ x. IsLater x (raised r)) k_is (subst (IsLater k) is later)) in
-      left_returns opened.0 opened.1 d.0 d.1 (subst (λ m. s ≡ renewed rows (seat_before m p.failed p.seat)) off seat)
-  returns_at some plans meant (from_meant k o kept failed on later counts) seat =
+      left_returns opened.0 opened.1 d.0 d.1 (subst (λ b. s ≡ renewed rows (seat_before same b p.failed p.seat)) off seat)
+  returns_at some meant (from_meant k m kept failed on later counts) seat =
       let both : Some k ≡ Some p.seat.part.seen.node.rows = sym kept ∙ some in
       let k_is : k ≡ p.seat.part.seen.node.rows = cc in
       let opened = (rows_of_some p.rows k p.seat.part.seen kept left.rows).1 in
-      let d = later_raises (accepting.adopted p.seat.part.seen.node.rows o.change) r
-      (subst (λ x. IsLater (accepting.adopted x o.change) (raised r)) k_is (subst (IsLater (accepting.adopted k o.change)) is later)) in
-      meant_returns opened.0 opened.1 d.0 o failed (plans o failed) d.1
-      (subst (λ f. s ≡ renewed rows (seat_before true f p.seat)) failed (subst (λ m. s ≡ renewed rows
-      (seat_before m p.failed p.seat)) on seat))
+      let d = later_raises (accepting.adopted p.seat.part.seen.node.rows (change_of m)) r
+      (subst (λ x. IsLater (accepting.adopted x (change_of m)) (raised r)) k_is (subst (IsLater (accepting.adopted k (change_of m))) is later)) in
+      meant_returns opened.0 opened.1 d.0 m failed d.1
+      (subst (λ f. s ≡ renewed rows (seat_before same true f p.seat)) failed (subst (λ b. s ≡ renewed rows
+      (seat_before same b p.failed p.seat)) on seat))
 
   pub returns_of : (v : Seated B) → LeftOf same p v → (meant : Bool) → MayBegin p rows meant
-      → s ≡ renewed rows (seat_before meant p.failed p.seat)
+      → s ≡ renewed rows (seat_before same meant p.failed p.seat)
       → Returns same p r v s
   returns_of v from meant may seat =
       subst (λ x. Returns same p r x s) from.seat
-      (returns_at (from.rows ∙ ap (λ x. Some x.part.seen.node.rows) (sym from.seat))
-      (λ o e. subst (λ x. IsPlan same p.me p.members x.part.seen.node o) (sym from.seat) (from.failed o e)) meant may seat)
+      (returns_at (from.rows ∙ ap (λ x. Some x.part.seen.node.rows) (sym from.seat)) meant may seat)
 
 -- why a restart is refused
 
@@ -276,7 +262,7 @@ module _ {B S K : Type 0} (same : B → B → Bool) (loaded : List ℕ → Optio
   exact_of old new (Keeper x) r (unread k f some stays counted sound) held true_to is = absurd (sound true_to r held
       (keeper_is x store.Damaged is))
   exact_of old new (Keeper store.Damaged) r (others k x some loads fit) held true_to is =
-      inr (k, some, subst (λ y. fit_of same p.failed k y ≡ Others) (loads.right true_to r held) fit)
+      inr (k, some, subst (λ y. fit_of same (change_in p.failed) k y ≡ Others) (loads.right true_to r held) fit)
   exact_of old new Memory r (unjudged k x some loads other failed) held true_to is = absurd cc
   exact_of old new Worn r (worn w) held true_to is = absurd cc
   exact_of old new (Keeper x) r (unread_first f none counts stays counted sound) held true_to is = absurd (sound true_to r held

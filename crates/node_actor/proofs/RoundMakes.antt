@@ -44,7 +44,9 @@ module _ {B S Y M K : Type 0} (same : B → B → Bool) (steps : Steps B S Y) (c
       → Makes (acting (record q { spoiled = true }) t) was now (Err Memory)
   made_silent more was now h g is =
       let st = seat_stands h.4.next h.4.stands in
-      (refl, record { seat = refl; node = st.node; waits = st.waits }, h.2.2, inr g, seat_rows h.4.next h.4.stands h.4.held, is, h.2.0)
+      let stands : StandsFor (acting (record q { spoiled = true }) t) t =
+      record { seat = refl; node = st.node; rows = st.rows; waits = st.waits } in
+      (refl, stands, h.2.2, inr g, seat_rows h.4.next h.4.stands h.4.held, is, h.2.0)
 
   -- the node was lost by it, and the same
 

@@ -13,16 +13,20 @@ use Rattle.replica_machine.specs.Log.{LogState}
 use Rattle.replica_machine.specs.Replay.{Steps}
 use Rattle.actor_outboxes.specs.Outboxes.{most_waiting, waiting, to, IsPeer, WaitBehind}
 use Rattle.paxos_node.specs.Adopting.{adopted}
+use Rattle.paxos_node.specs.Held.{Held}
 use Rattle.paxos_node.specs.declared.outcome.Outcome.{Outcome}
 use Rattle.mail_table.specs.Boxes.{Follows}
 use Rattle.mail_table.specs.Seats.{Seated}
 use Rattle.actor_parts.specs.declared.fault.ActorFault.{ActorFault}
 use Rattle.actor_parts.specs.declared.fault.ActorFault.TheVariants.{Failed, Rounds, Full, Keeper, Disagree, LostHere, Worn, Memory}
-use Rattle.actor_parts.specs.Parts.{Parted, IsSound}
+use Rattle.actor_parts.specs.Parts.{Parted, IsPlan, IsSound}
+use Rattle.actor_parts.specs.Tried.{IsMeant}
+use Rattle.actor_parts.specs.declared.tried.FailedCommit.{FailedCommit}
+use Rattle.actor_parts.specs.declared.tried.FailedCommit.TheVariants.{One}
 use Rattle.actor_parts.specs.Steps.{next_node, StaysWho, TakesIn, OnlyKeeper}
 use Rattle.actor_parts.proofs.Carrying.{next_same, some_same, Ready, Roomed, roomed_who, kept_who, who_on}
 use Rattle.node_actor.specs.Actor.{acting, IsSeated}
-use Rattle.node_actor.specs.Posts.{advanced}
+use Rattle.node_actor.specs.Posts.{advanced, MayYet}
 use Rattle.node_actor.specs.Turns.{StaysAt}
 use Rattle.node_actor.specs.Views.{StandsFor}
 
@@ -30,9 +34,12 @@ all_in : {A : Type 0} (xs : List A) → All (Contains xs) xs
 all_in xs = λ k d h. (k, h, get_or_default xs k (get_or xs k d) d h)
 
 -- no commit failed
-pub no_outcome : {B : Type 0} (same : B → B → Bool) (s : Seated B) (f : Option (Outcome B)) → f ≡ None → (o : Outcome B) → f ≡ Some o
-    → Follows same s.members s.part o
-no_outcome {B = B} same s f none o some = absurd (let off : ◌≡◌ {A = Option (Outcome B)} None (Some o) = sym none ∙ some in cc)
+pub none_meant : {F : Type 0} (P : F → Type 0) (f : Option F) → f ≡ None → (m : F) → f ≡ Some m → P m
+none_meant {F = F} P f none m some = absurd (let off : ◌≡◌ {A = Option F} None (Some m) = sym none ∙ some in cc)
+
+-- what a failed commit was to leave is planned of the node that the seat knows, and its steps may yet be taken
+abbrev pub MayLeave : {B : Type 0} → (B → B → Bool) → Held B → Seated B → FailedCommit B → Type 0
+MayLeave same h s m = IsMeant same h.me h.members s.part.seen.node m × MayYet same s.members s.part m
 
 module _ {B M K : Type 0} where
   pub peer_of : (old : Parted B M K) → old.waiting.me ≡ old.node.me → old.waiting.members ≡ old.node.members → (k : ℕ)
@@ -46,7 +53,7 @@ module _ {B M K : Type 0} where
       subst (λ n. IsPeer n old.node.members k) who.me (subst (λ n. IsPeer new.node.me n k) who.members peer)
 
   -- what waits once more packets do was sent, or is among these
-  sent_still : (old new : Parted B M K) (packets sent : List (Packet B)) → old.waiting.me ≡ old.node.me
+  pub sent_still : (old new : Parted B M K) (packets sent : List (Packet B)) → old.waiting.me ≡ old.node.me
       → old.waiting.members ≡ old.node.members
       → StaysWho old new → ((k : ℕ) → IsPeer old.node.me old.node.members k → All (Contains sent) (waiting k old.waiting))
       → WaitBehind packets old.waiting new.waiting → (k : ℕ) → IsPeer new.node.me new.node.members k
@@ -65,18 +72,20 @@ module _ {B M K : Type 0} where
 module _ {B M K : Type 0} (same : B → B → Bool) where
   -- the actor stands for what its seat knows
   pub seated_stands : (p : Parted B M K) (s : Seated B) → IsSeated same (acting p s) → StandsFor (acting p s) s
-  seated_stands p s seated = record { seat = refl; node = sym seated.node; waits = seated.waits }
+  seated_stands p s seated =
+      record { seat = refl; node = λ up. sym (seated.node up); rows = sym seated.same_rows; waits = seated.waits }
 
   -- nothing of node and outboxes is new
   pub seated_still : (old new : Parted B M K) (s : Seated B) → StaysWho old new → new.node.state ≡ old.node.state
       → new.waiting ≡ old.waiting
-      → ((o : Outcome B) → new.failed ≡ Some o → Follows same s.members s.part o) → IsSeated same (acting old s)
+      → ((m : FailedCommit B) → new.failed ≡ Some m → MayLeave same new.node s m) → IsSeated same (acting old s)
       → IsSeated same (acting new s)
   seated_still old new s who state waits failed seated =
       record {
         me = seated.me ∙ sym who.me;
         members = seated.members ∙ sym who.members;
-        node = seated.node ∙ sym state;
+        node = λ up. seated.node (ap (λ x. x.up) (sym state) ∙ up) ∙ sym state;
+        same_rows = seated.same_rows ∙ ap (λ x. x.rows) (sym state);
         rows = seated.rows;
         opened = seated.opened;
         waits = λ k peer. subst (λ w. All (Contains s.part.seen.sent) (waiting k w)) (sym waits)
@@ -88,16 +97,19 @@ module _ {B M K : Type 0} (same : B → B → Bool) where
   pub seated_moved : (o : Outcome B) (old new : Parted B M K) (s t : Seated B) → t ≡ advanced o s → old.waiting.me ≡ old.node.me
       → old.waiting.members ≡ old.node.members → StaysWho old new → new.node.state ≡ next_node o old
       → WaitBehind o.packets old.waiting new.waiting
-      → new.failed ≡ None → IsSeated same (acting old s) → IsSeated same (acting new t)
-  seated_moved o old new s t is me members who state waits failed seated =
+      → new.failed ≡ None → old.node.state.up ≡ true → IsSeated same (acting old s) → IsSeated same (acting new t)
+  seated_moved o old new s t is me members who state waits failed up seated =
+      let node : (advanced o s).part.seen.node ≡ new.node.state =
+      (λ i. adopted (seated.me i) (seated.members i) o (seated.node up i)) ∙ sym state in
       subst (λ z. IsSeated same (acting new z)) (sym is) (record {
         me = seated.me ∙ sym who.me;
         members = seated.members ∙ sym who.members;
-        node = (λ i. adopted (seated.me i) (seated.members i) o (seated.node i)) ∙ sym state;
+        node = λ new_up. node;
+        same_rows = ap (λ x. x.rows) node;
         rows = seated.rows;
         opened = seated.opened;
         waits = sent_still old new o.packets s.part.seen.sent me members who seated.waits waits;
-        failed = no_outcome same (advanced o s) new.failed failed;
+        failed = none_meant (MayLeave same new.node (advanced o s)) new.failed failed;
       })
 
   -- the parts that took it over
@@ -117,14 +129,15 @@ module _ {B M K : Type 0} (same : B → B → Bool) where
     pub seated_on : (holds : K → Rows B → Type 0) (is_failed : K → Bool) (base : LogState B M) (o : Outcome B) (old mid new : Parted B M K)
         (s t : Seated B)
         → t ≡ advanced o s
-        → IsSound same holds is_failed old → Ready holds is_failed base o old mid → old.failed ≡ None → StaysWho mid new
+        → IsSound same holds is_failed old → Ready holds is_failed base o old mid → old.failed ≡ None → old.node.state.up ≡ true
+        → StaysWho mid new
         → (result : Result (Vec Y Global) (ActorFault Y)) → TakesIn steps content o mid new result → IsSeated same (acting old s)
         → IsSeated same (acting new t)
-    seated_on holds is_failed base o old mid new s t is sound r none who result h seated =
+    seated_on holds is_failed base o old mid new s t is sound r none up who result h seated =
         let did = over o mid new result h in
         seated_moved o old new s t is sound.me sound.members (who_on old mid new r.who who)
         (did.0 ∙ next_same o old mid r.who.me r.who.members r.state) (subst (λ w. WaitBehind o.packets w new.waiting) r.waiting did.1)
-        (did.2 ∙ r.failed ∙ none) seated
+        (did.2 ∙ r.failed ∙ none) up seated
 
   -- nothing but tries and packets that were received is new at the seat
   pub seated_at : (p : Parted B M K) (s t : Seated B) → p.failed ≡ None → t.members ≡ s.members → t.part.me ≡ s.part.me
@@ -134,11 +147,12 @@ module _ {B M K : Type 0} (same : B → B → Bool) where
       record {
         me = me ∙ seated.me;
         members = members ∙ seated.members;
-        node = ap (λ x. x.node) seen ∙ seated.node;
+        node = λ up. ap (λ x. x.node) seen ∙ seated.node up;
+        same_rows = ap (λ x. x.node.rows) seen ∙ seated.same_rows;
         rows = seated.rows;
         opened = ap (λ x. x.opened) seen ∙ seated.opened;
         waits = λ k peer. subst (λ x. All (Contains x.sent) (waiting k p.waiting)) (sym seen) (seated.waits k peer);
-        failed = no_outcome same t p.failed none;
+        failed = none_meant (MayLeave same p.node t) p.failed none;
       }
 
   -- room was made, and the actor has ended
@@ -148,18 +162,22 @@ module _ {B M K : Type 0} (same : B → B → Bool) where
       let who = roomed_who old mid r in
       seated_still old (record mid { spoiled = true }) s
       (record { me = who.me; members = who.members; waits_me = who.waits_me; waits_members = who.waits_members }) r.state r.rest.waiting
-      (no_outcome same s mid.failed (r.rest.failed ∙ none)) seated
+      (none_meant (MayLeave same mid.node s) mid.failed (r.rest.failed ∙ none)) seated
 
   -- the commit failed
   pub seated_fallen : (o : Outcome B) (old mid new : Parted B M K) (s : Seated B) → Follows same s.members s.part o → Roomed old mid
-      → OnlyKeeper mid new
-      → IsSeated same (acting old s) → IsSeated same (acting (record new { failed = Some o; spoiled = true }) s)
-  seated_fallen o old mid new s follows r k seated =
+      → OnlyKeeper mid new → IsPlan same old.node.me old.node.members old.node.state o → old.node.state.up ≡ true
+      → IsSeated same (acting old s) → IsSeated same (acting (record new { failed = Some (One o); spoiled = true }) s)
+  seated_fallen o old mid new s follows r k plan up seated =
       let who = kept_who old mid new r k in
-      seated_still old (record new { failed = Some o; spoiled = true }) s
+      let still : IsPlan same new.node.me new.node.members s.part.seen.node o =
+      subst (λ x. IsPlan same new.node.me new.node.members x o) (sym (seated.node up))
+      (subst (λ n. IsPlan same new.node.me n old.node.state o) (sym who.members)
+      (subst (λ n. IsPlan same n old.node.members old.node.state o) (sym who.me) plan)) in
+      seated_still old (record new { failed = Some (One o); spoiled = true }) s
       (record { me = who.me; members = who.members; waits_me = who.waits_me; waits_members = who.waits_members })
       (ap (λ n. n.state) k.node ∙ r.state) (k.waiting ∙ r.rest.waiting)
-      (λ p e. subst (Follows same s.members s.part) (some_same o p e) follows) seated
+      (λ m e. subst (MayLeave same new.node s) (some_same (One o) m e) (still, follows)) seated
 
   pub seated_spoiled : (old : Parted B M K) (s : Seated B) → IsSeated same (acting old s)
       → IsSeated same (acting (record old { spoiled = true }) s)

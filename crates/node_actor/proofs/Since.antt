@@ -28,7 +28,7 @@ module _ {B M K : Type 0} where
   since l a = record a { last = l }
 
   pub stands_since : (l : LastTurn) (a : Acting B M K) (v : View B) → StandsFor a v → StandsFor (since l a) v
-  stands_since l a v s = record { seat = s.seat; node = s.node; waits = s.waits }
+  stands_since l a v s = record { seat = s.seat; node = s.node; rows = s.rows; waits = s.waits }
 
   queues_since : (l m : LastTurn) (k : ℕ) (packets : List (Packet B)) (old new : Acting B M K) (v w : View B) → Queues k packets old new v w
       → Queues k packets (since l old) (since m new) v w

@@ -17,7 +17,7 @@ module _ {B M K S : Type 0} (same : B → B → Bool) (content : M → S) (loade
     (is_faithful : K → Type 0) (is_failed : K → Bool) where
   pub sound_first : (p : Posted B) (old keeper : K) (h : Held B) (w : Waiting B) (s : Seated B) (machine : M) (log : LogState B M)
       → IsMember p.members p.me
-      → Begins holds is_faithful is_failed p old keeper h w s → IsFirstLog content loaded machine h.state.rows.snapshot log
+      → Begins same holds is_faithful is_failed p old keeper h w s → IsFirstLog content loaded machine h.state.rows.snapshot log
       → IsSound same holds is_failed (first_parts h keeper w log)
   sound_first p old keeper h w s machine log member b begins =
       let shows = first_shows content loaded machine h.state.rows.snapshot log begins in
@@ -36,6 +36,5 @@ module _ {B M K S : Type 0} (same : B → B → Bool) (content : M → S) (loade
           committed = refl;
           ahead = shows.3;
         };
-        failed = λ o e. absurd cc;
         front = λ up. prefix_whole log.applied h.state.applied followed;
       }

@@ -19,7 +19,7 @@ use Rattle.mail_table.proofs.Places.{box_tells}
 use Rattle.node_actor.specs.Actor.{Acting, acting, IsSeated}
 use Rattle.node_actor.specs.Turns.{tries_at, PostsTo, none_due, post_won, post_lost, Beside, StaysTo, PostsOne, PostsAlone}
 use Rattle.node_actor.specs.Views.{View}
-use Rattle.node_actor.proofs.Seating.{no_outcome}
+use Rattle.node_actor.proofs.Seating.{none_meant, MayLeave}
 
 pub has_in : {A : Type 0} (xs : List A) (x : A) → Contains xs x → Has xs x
 has_in [] x (k, lt, at) = absurd (omega arith)
@@ -164,11 +164,12 @@ module _ {B M K : Type 0} (same : B → B → Bool) where
       record {
         me = me ∙ seated.me ∙ ap (λ n. n.me) (sym only.node);
         members = members ∙ seated.members ∙ ap (λ n. n.members) (sym only.node);
-        node = ap (λ x. x.node) seen ∙ seated.node ∙ ap (λ n. n.state) (sym only.node);
+        node = λ up. ap (λ x. x.node) seen ∙ seated.node (ap (λ n. n.state.up) (sym only.node) ∙ up) ∙ ap (λ n. n.state) (sym only.node);
+        same_rows = ap (λ x. x.node.rows) seen ∙ seated.same_rows ∙ ap (λ n. n.state.rows) (sym only.node);
         rows = seated.rows;
         opened = ap (λ x. x.opened) seen ∙ seated.opened;
         waits = λ k peer. subst (λ x. All (Contains x.sent) (waiting k q.waiting)) (sym seen) (waits k (peer_same p q only k peer));
-        failed = no_outcome same t q.failed (only.failed ∙ none);
+        failed = none_meant (MayLeave same q.node t) q.failed (only.failed ∙ none);
       }
 
   -- what waits is among what waited

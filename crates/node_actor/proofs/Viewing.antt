@@ -92,16 +92,16 @@ fits_on {B} same o old mid new plan r k =
 -- and the seat may take its step
 pub follows_plan : {B M K : Type 0} (same : B → B → Bool) (e : Event B) (o : Outcome B) (p : Parted B M K) (s : Seated B)
     → plans p.node.me e p.node.state ≡ true → Planned same p.node.members e p.node.state o → IsSeated same (acting p s)
-    → Received s.members s.part e
+    → p.node.state.up ≡ true → Received s.members s.part e
     → Follows same s.members s.part o
-follows_plan same e o p s mine planned seated received =
+follows_plan same e o p s mine planned seated up received =
     record {
       event = e;
       rows = seated.rows;
       opened = seated.opened;
       own = owner_is p.node.me e p.node.state mine ∙ sym seated.me;
-      may = ap (possible e) seated.node ∙ possible_is p.node.me e p.node.state mine;
-      is = subst (λ x. Planned same s.members e x o) (sym seated.node) (subst (λ n. Planned same n e p.node.state o) (sym seated.members)
+      may = ap (possible e) (seated.node up) ∙ possible_is p.node.me e p.node.state mine;
+      is = subst (λ x. Planned same s.members e x o) (sym (seated.node up)) (subst (λ n. Planned same n e p.node.state o) (sym seated.members)
           planned);
       received = received;
     }
@@ -159,11 +159,12 @@ module _ {B M K : Type 0} where
 
 module _ {B S Y M K : Type 0} (same : B → B → Bool) (steps : Steps B S Y) (content : M → S) (loaded : List ℕ → Option S)
     (holds : K → Rows B → Type 0) (finds : K → Rows B → Type 0) (failures : K → ℕ) (is_failed : K → Bool) where
-  module _ {got : List (Packet B)} (e : Event B) (o : Outcome B) (old new : Parted B M K) (v s t : Seated B) (sound : IsSound same holds is_failed old)
-      (seated : IsSeated same (acting old s)) (behind : IsSeated same (acting new t)) (reach : ReachesWith got old.spoiled (Some e) v s)
+  module _ {got : List (Packet B)} (e : Event B) (o : Outcome B) (old new : Parted B M K) (v s t : Seated B)
+      (sound : IsSound same holds is_failed old) (seated : IsSeated same (acting old s)) (up : old.node.state.up ≡ true)
+      (behind : IsSeated same (acting new t)) (reach : ReachesWith got old.spoiled (Some e) v s)
       (mine : plans old.node.me e old.node.state ≡ true) (planned : Planned same old.node.members e old.node.state o) where
     is_node : old.node.state ≡ (seen v).node
-    is_node = sym seated.node ∙ ap (λ x. x.node) reach.seen
+    is_node = sym (seated.node up) ∙ ap (λ x. x.node) reach.seen
 
     next_is : next_node o old ≡ (outcome_of same old.node.members e (seen v).node).node
     next_is = node_is same old.node.me old.node.members e old.node.state (seen v).node o (owner_is old.node.me e old.node.state mine)
@@ -175,7 +176,7 @@ module _ {B S Y M K : Type 0} (same : B → B → Bool) (steps : Steps B S Y) (c
     moved_is : t ≡ advanced o s → seen t ≡ moved_by same old.node.members (Some e) (seen v)
     moved_is is =
         let node : adopted s.part.me s.members o s.part.seen.node ≡ (outcome_of same old.node.members e (seen v).node).node =
-        (λ i. adopted (seated.me i) (seated.members i) o (seated.node i)) ∙ next_is in
+        (λ i. adopted (seated.me i) (seated.members i) o (seated.node up i)) ∙ next_is in
         ap seen is ∙ (λ i. moved (node i) (packets i) (reach.seen i))
 
     -- the seat took the step, or none
@@ -389,79 +390,79 @@ module _ {B S Y M K : Type 0} (same : B → B → Bool) (steps : Steps B S Y) (c
 
   -- refusals
 
-  module _ {got : List (Packet B)} (e : Event B) (p : Parted B M K) (v s : Seated B) (seated : IsSeated same (acting p s)) (reach : ReachesWith got p.spoiled (Some e) v s)
-    where
-      stays_node : p.node.state ≡ (seen v).node
-      stays_node = sym seated.node ∙ ap (λ x. x.node) reach.seen
+  module _ {got : List (Packet B)} (e : Event B) (p : Parted B M K) (v s : Seated B) (seated : IsSeated same (acting p s))
+      (up : p.node.state.up ≡ true) (reach : ReachesWith got p.spoiled (Some e) v s) where
+    stays_node : p.node.state ≡ (seen v).node
+    stays_node = sym (seated.node up) ∙ ap (λ x. x.node) reach.seen
 
-      stops_here : IsServing holds is_failed p → (f : Option (Event B)) → IsSeated same (acting (record p { spoiled = true }) s)
-          → Stops same steps content loaded holds finds failures f (acting p v) (acting (record p { spoiled = true }) s) v
-      stops_here serving f behind =
-          record {
-            next = s;
-            stands = seated_stands same (record p { spoiled = true }) s behind;
-            moved = inl reach.seen;
-            held = subst (λ x. holds p.keeper x.rows) (sym seated.node) serving.held;
-          }
+    stops_here : IsServing holds is_failed p → (f : Option (Event B)) → IsSeated same (acting (record p { spoiled = true }) s)
+        → Stops same steps content loaded holds finds failures f (acting p v) (acting (record p { spoiled = true }) s) v
+    stops_here serving f behind =
+        record {
+          next = s;
+          stands = seated_stands same (record p { spoiled = true }) s behind;
+          moved = inl reach.seen;
+          held = subst (λ x. holds p.keeper x.rows) (sym (seated.node up)) serving.held;
+        }
 
-      taken_here : (is_round_refused e p.node.state ≡ false) × (is_full_refused same e p.node.state ≡ false)
-          → IsTaken same steps content loaded holds finds failures (Some e) (acting p v) v
-      taken_here h = (ap (is_round_refused e) (sym stays_node) ∙ h.0, ap (is_full_refused same e) (sym stays_node) ∙ h.1)
+    taken_here : (is_round_refused e p.node.state ≡ false) × (is_full_refused same e p.node.state ≡ false)
+        → IsTaken same steps content loaded holds finds failures (Some e) (acting p v) v
+    taken_here h = (ap (is_round_refused e) (sym stays_node) ∙ h.0, ap (is_full_refused same e) (sym stays_node) ∙ h.1)
 
-      agrees_here : (b : Bool) → (outcome_of same p.node.members e p.node.state).disagrees ≡ b
-          → (outcome_of same p.node.members e (seen v).node).disagrees ≡ b
-      agrees_here b h = ap (λ x. (outcome_of same p.node.members e x).disagrees) (sym stays_node) ∙ h
+    agrees_here : (b : Bool) → (outcome_of same p.node.members e p.node.state).disagrees ≡ b
+        → (outcome_of same p.node.members e (seen v).node).disagrees ≡ b
+    agrees_here b h = ap (λ x. (outcome_of same p.node.members e x).disagrees) (sym stays_node) ∙ h
 
-      worn_here : (b : Bool) → may_advance s ≡ b → is_worn (Some e) v ≡ not b
-      worn_here b may = ap (λ n. not (nat_lt n (2 ^ 62))) (sym reach.events) ∙ ap not may
+    worn_here : (b : Bool) → may_advance s ≡ b → is_worn (Some e) v ≡ not b
+    worn_here b may = ap (λ n. not (nat_lt n (2 ^ 62))) (sym reach.events) ∙ ap not may
 
-      pub disagree_acts : p.spoiled ≡ false → IsServing holds is_failed p → IsSeated same (acting (record p { spoiled = true }) s)
-          → (is_round_refused e p.node.state ≡ false) × (is_full_refused same e p.node.state ≡ false)
-          × ((outcome_of same p.node.members e p.node.state).disagrees ≡ true)
-          → ActsWith same steps content loaded holds finds failures got (Some e) (acting p v) (acting (record p { spoiled = true }) s) v (Err Disagree)
-      disagree_acts fresh serving behind h = (
-        fresh,
-        refl,
-        taken_here (h.0, h.1),
-        or_left _ (takes_no_log same p.node.members loaded (Some e) (seen v).node) (agrees_here true h.2),
-        stops_here serving None behind,
-      )
+    pub disagree_acts : p.spoiled ≡ false → IsServing holds is_failed p → IsSeated same (acting (record p { spoiled = true }) s)
+        → (is_round_refused e p.node.state ≡ false) × (is_full_refused same e p.node.state ≡ false)
+        × ((outcome_of same p.node.members e p.node.state).disagrees ≡ true)
+        → ActsWith same steps content loaded holds finds failures got (Some e) (acting p v) (acting (record p { spoiled = true }) s) v (Err Disagree)
+    disagree_acts fresh serving behind h = (
+      fresh,
+      refl,
+      taken_here (h.0, h.1),
+      or_left _ (takes_no_log same p.node.members loaded (Some e) (seen v).node) (agrees_here true h.2),
+      stops_here serving None behind,
+    )
 
-      pub memory_acts : p.spoiled ≡ false → IsServing holds is_failed p → IsSeated same (acting (record p { spoiled = true }) s)
-          → (is_round_refused e p.node.state ≡ false) × (is_full_refused same e p.node.state ≡ false)
-          → (outcome_of same p.node.members e p.node.state).disagrees ≡ false
-          → ActsWith same steps content loaded holds finds failures got (Some e) (acting p v) (acting (record p { spoiled = true }) s) v
-          (Err (fault_without_plan s))
-      memory_acts fresh serving behind h agrees = by_word (may_advance s) refl
-        where
-          by_word : (b : Bool) → may_advance s ≡ b
-              → ActsWith same steps content loaded holds finds failures got (Some e) (acting p v) (acting (record p { spoiled = true }) s) v
-              (Err (cond {A = ActorFault Y} b Memory Worn))
-          by_word true may = (fresh, refl, (taken_here h, agrees_here false agrees, worn_here true may), stops_here serving (Some e) behind)
-          by_word false may = (
-            fresh,
-            refl,
-            taken_here h,
-            agrees_here false agrees,
-            worn_here false may,
-            stops_here serving None behind,
-          )
+    pub memory_acts : p.spoiled ≡ false → IsServing holds is_failed p → IsSeated same (acting (record p { spoiled = true }) s)
+        → (is_round_refused e p.node.state ≡ false) × (is_full_refused same e p.node.state ≡ false)
+        → (outcome_of same p.node.members e p.node.state).disagrees ≡ false
+        → ActsWith same steps content loaded holds finds failures got (Some e) (acting p v) (acting (record p { spoiled = true }) s) v
+        (Err (fault_without_plan s))
+    memory_acts fresh serving behind h agrees = by_word (may_advance s) refl
+      where
+        by_word : (b : Bool) → may_advance s ≡ b
+            → ActsWith same steps content loaded holds finds failures got (Some e) (acting p v) (acting (record p { spoiled = true }) s) v
+            (Err (cond {A = ActorFault Y} b Memory Worn))
+        by_word true may = (fresh, refl, (taken_here h, agrees_here false agrees, worn_here true may), stops_here serving (Some e) behind)
+        by_word false may = (
+          fresh,
+          refl,
+          taken_here h,
+          agrees_here false agrees,
+          worn_here false may,
+          stops_here serving None behind,
+        )
 
-      round_alone : (x : Event B) → is_round_refused x p.node.state ≡ true → packet_in x ≡ None
-      round_alone (Deliver q) h = absurd (false≢true h)
-      round_alone _ h = refl
+    round_alone : (x : Event B) → is_round_refused x p.node.state ≡ true → packet_in x ≡ None
+    round_alone (Deliver q) h = absurd (false≢true h)
+    round_alone _ h = refl
 
-      full_alone : (x : Event B) → is_full_refused same x p.node.state ≡ true → packet_in x ≡ None
-      full_alone (Deliver q) h = absurd (false≢true h)
-      full_alone _ h = refl
+    full_alone : (x : Event B) → is_full_refused same x p.node.state ≡ true → packet_in x ≡ None
+    full_alone (Deliver q) h = absurd (false≢true h)
+    full_alone _ h = refl
 
-      pub rounds_act : p.spoiled ≡ false → is_round_refused e p.node.state ≡ true
-          → ActsWith same steps content loaded holds finds failures got (Some e) (acting p v) (acting p s) v (Err Rounds)
-      rounds_act fresh h = (fresh, ap (is_round_refused e) (sym stays_node) ∙ h, ap (acting p) (reach.alone e refl (round_alone e h)))
+    pub rounds_act : p.spoiled ≡ false → is_round_refused e p.node.state ≡ true
+        → ActsWith same steps content loaded holds finds failures got (Some e) (acting p v) (acting p s) v (Err Rounds)
+    rounds_act fresh h = (fresh, ap (is_round_refused e) (sym stays_node) ∙ h, ap (acting p) (reach.alone e refl (round_alone e h)))
 
-      pub full_act : p.spoiled ≡ false → is_full_refused same e p.node.state ≡ true
-          → ActsWith same steps content loaded holds finds failures got (Some e) (acting p v) (acting p s) v (Err Full)
-      full_act fresh h = (fresh, ap (is_full_refused same e) (sym stays_node) ∙ h, ap (acting p) (reach.alone e refl (full_alone e h)))
+    pub full_act : p.spoiled ≡ false → is_full_refused same e p.node.state ≡ true
+        → ActsWith same steps content loaded holds finds failures got (Some e) (acting p v) (acting p s) v (Err Full)
+    full_act fresh h = (fresh, ap (is_full_refused same e) (sym stays_node) ∙ h, ap (acting p) (reach.alone e refl (full_alone e h)))
 
   -- a fault has ended the actor before
   pub failed_acts : {got : List (Packet B)} (e : Option (Event B)) (p : Parted B M K) (v s : Seated B) → p.spoiled ≡ true → ReachesWith got p.spoiled e v s
@@ -477,14 +478,14 @@ module _ {B S Y M K : Type 0} (same : B → B → Bool) (steps : Steps B S Y) (c
     fresh,
     fresh,
     ((refl, refl), refl, refl),
-    ap (λ x. x.node.up) (sym reach.seen) ∙ ap (λ x. x.up) seated.node ∙ serving.up,
+    ap (λ x. x.node.up) (sym reach.seen) ∙ ap (λ x. x.up) (seated.node serving.up) ∙ serving.up,
     record {
       next = s;
       stands = seated_stands same p s seated;
       moved = reach.seen;
       received = reach.received;
       queues = λ k peer. queues_still p p v s refl k (posted_same p.spoiled None v s reach k) (short k peer);
-      held = subst (λ x. holds p.keeper x.rows) (sym seated.node) serving.held;
+      held = subst (λ x. holds p.keeper x.rows) (sym (seated.node serving.up)) serving.held;
       loads = refl;
       says = λ first under logs l takes. silent;
       follows = λ first under logs l takes. l;
@@ -525,7 +526,7 @@ owned_event me (Cut n snapshot) h = absurd (false≢true h)
 owned_event me (Crash n) h = absurd (false≢true h)
 owned_event me (Restart n) h = absurd (false≢true h)
 
-possible_event : {B : Type 0} (me : ℕ) (e : Event B) (x : NodeState B) → is_own me e ≡ true → x.up ≡ true → possible e x ≡ true
+pub possible_event : {B : Type 0} (me : ℕ) (e : Event B) (x : NodeState B) → is_own me e ≡ true → x.up ≡ true → possible e x ≡ true
 possible_event me (Take n t body) x h up = and_from x.up _ up (and_parts (eqb n me) _ h).1
 possible_event me (Tick n) x h up = up
 possible_event me (Start n) x h up = up

@@ -6,9 +6,9 @@ use Rattle.paxos_packets.specs.Snapshot.{same_snapshot}
 use Rattle.paxos_packets.specs.Snapshot as taken
 use Rattle.paxos_packets.specs.Vote.{same_vote}
 use Rattle.paxos_packets.specs.declared.ballot.Ballot.{Ballot}
+use Rattle.paxos_packets.specs.declared.rows.Change.{Change}
 use Rattle.paxos_packets.specs.declared.rows.Rows.{Rows}
 use Rattle.paxos_acceptor.specs.Acceptor as accepting
-use Rattle.paxos_node.specs.declared.outcome.Outcome.{Outcome}
 use Rattle.node_actor.specs.declared.compare.Fit.{Fit}
 use Rattle.node_actor.specs.declared.compare.Fit.TheVariants.{Left, Meant, Others}
 
@@ -37,11 +37,11 @@ is_ahead same k r = nat_le k.boot r.boot && same_but_boot same k r
 abbrev pub is_later : {B : Type 0} → (B → B → Bool) → Rows B → Rows B → Bool
 is_later same k r = nat_lt k.boot r.boot && same_but_boot same k r
 
--- `is_ahead` of the rows after an outcome whose commit failed
-abbrev pub is_meant : {B : Type 0} → (B → B → Bool) → Option (Outcome B) → Rows B → Rows B → Bool
+-- `is_ahead` of the rows after a change whose commit failed
+abbrev pub is_meant : {B : Type 0} → (B → B → Bool) → Option (Change B) → Rows B → Rows B → Bool
 is_meant same None k r = false
-is_meant same (Some o) k r = is_ahead same (accepting.adopted k o.change) r
+is_meant same (Some c) k r = is_ahead same (accepting.adopted k c) r
 
 -- the store's rows: those that were left, else those that the failed commit was to leave, else others
-abbrev pub fit_of : {B : Type 0} → (B → B → Bool) → Option (Outcome B) → Rows B → Rows B → Fit
+abbrev pub fit_of : {B : Type 0} → (B → B → Bool) → Option (Change B) → Rows B → Rows B → Fit
 fit_of same failed k r = if is_ahead same k r then Left else (if is_meant same failed k r then Meant else Others)

@@ -15,3 +15,4 @@ pub mod MidRound
 pub mod Restarts
 pub mod Examples
 pub mod RoundExamples
+pub mod Trying

@@ -1,6 +1,6 @@
 -- What a restart is among the events of the core, and why one is refused (docs/CONSENSUS.md, "A node with its store").
 use Rattle.std.specs.Prelude.{◌≡◌, ◌⊎◌, ◌<◌, ◌≤◌, ◌^◌, ℕ, zero, suc, ◌-◌, nat_lt, Bool, true, false, Result, Ok, Err, Some, None, List, []}
-use Rattle.std.specs.Prelude.{◌∷◌, Option, is_some, if◌then◌else◌}
+use Rattle.std.specs.Prelude.{◌∷◌, ◌++◌, ◌+◌, Option, is_some, option_map, if◌then◌else◌}
 use Rattle.paxos_packets.specs.Rows.{raised}
 use Rattle.paxos_packets.specs.declared.rows.Rows.{Rows}
 use Rattle.paxos_acceptor.specs.Acceptor as accepting
@@ -14,6 +14,11 @@ use Rattle.paxos_node.specs.View.{Viewed, moved}
 use Rattle.paxos_node.specs.declared.event.Event.{Event}
 use Rattle.paxos_node.specs.declared.event.Event.TheVariants.{Crash, Restart}
 use Rattle.paxos_node.specs.declared.outcome.Outcome.{Outcome}
+use Rattle.paxos_packets.specs.declared.rows.Change.{Change}
+use Rattle.actor_parts.specs.Tried.{AreTried, change_of, count_of, events_in}
+use Rattle.actor_parts.specs.declared.tried.FailedCommit.{FailedCommit}
+use Rattle.actor_parts.specs.declared.tried.FailedCommit.TheVariants.{One, Round}
+use Rattle.actor_parts.specs.declared.tried.Tried.{Tried}
 use Rattle.paxos_planning.specs.Node.{NodeState}
 use Rattle.mail_table.specs.Seats.{Seated}
 use Rattle.actor_parts.specs.declared.fault.ActorFault.{ActorFault}
@@ -51,13 +56,32 @@ abbrev pub ArePossible : {B : Type 0} → (B → B → Bool) → ℕ → List (E
 ArePossible same members [] x = Unit {0}
 ArePossible same members (e ∷ es) x = (possible e x ≡ true) × ArePossible same members es (outcome_of same members e x).node
 
--- the store's rows are those of the post, or those after its outcome, apart from `d` boots more; then the view goes on by the event whose
--- commit had failed, if they are the second, by a Crash if its node is up, by a Restart and a Crash for each boot more, and by a Restart
+-- the node after events, one after another
+abbrev pub node_after : {B : Type 0} → (B → B → Bool) → ℕ → List (Event B) → NodeState B → NodeState B
+node_after same members [] x = x
+node_after same members (e ∷ es) x = node_after same members es (outcome_of same members e x).node
+
+-- the events that what a failed commit was to leave is of
+pub data AreOf {B : Type 0} (same : B → B → Bool) (me members : ℕ) (x : NodeState B) : FailedCommit B → List (Event B) → Type 0 where
+  of_one : (o : Outcome B) (e : Event B) → plans me e x ≡ true → Planned same members e x o → AreOf same me members x (One o) (e ∷ [])
+  of_round : (c : Change B) (ts : List (Tried B)) → AreTried same me members ts x → AreOf same me members x (Round c ts) (events_in ts)
+
+-- the store's rows are those of the post, or those that its failed commit was to leave, apart from `d` boots more; then the view goes on by the
+-- events whose commit had failed, if they are the second, by a Crash if its node is up, by a Restart and a Crash for each boot more, and by a Restart
 pub data ComesBack {B : Type 0} (same : B → B → Bool) (p : Posted B) (x : NodeState B) (r : Rows B) : List (Event B) → Type 0 where
   as_left : (d : ℕ) → r ≡ raises d x.rows → ComesBack same p x r (comes_back p.me x.up d)
-  as_meant : (d : ℕ) (o : Outcome B) (e : Event B) → p.failed ≡ Some o → plans p.me e x ≡ true → Planned same p.members e x o
-      → r ≡ raises d (accepting.adopted x.rows o.change)
-      → ComesBack same p x r (e ∷ comes_back p.me (outcome_of same p.members e x).node.up d)
+  as_meant : (d : ℕ) (m : FailedCommit B) (es : List (Event B)) → p.failed ≡ Some m → AreOf same p.me p.members x m es
+      → r ≡ raises d (accepting.adopted x.rows (change_of m))
+      → ComesBack same p x r (es ++ comes_back p.me (node_after same p.members es x).up d)
+
+-- the change whose commit failed, and of how many events it is: none without one
+
+abbrev pub change_in : {B : Type 0} → Option (FailedCommit B) → Option (Change B)
+change_in failed = option_map change_of failed
+
+abbrev pub count_in : {B : Type 0} → Option (FailedCommit B) → ℕ
+count_in None = 0
+count_in (Some m) = count_of m
 
 -- so the seat goes on from one view to the next, and exchanges no packet meanwhile
 pub record Returns {B : Type 0} (same : B → B → Bool) (p : Posted B) (r : Rows B) (v w : Seated B) : Type 0 where
@@ -73,7 +97,7 @@ pub record Returns {B : Type 0} (same : B → B → Bool) (p : Posted B) (r : Ro
 -- the store has rows with a snapshot of which no log is made, or the node was opened, and may not find these rows again
 abbrev pub HasOthers : {B S : Type 0} → (B → B → Bool) → (List ℕ → Option S) → Posted B → Rows B → Type 0
 HasOthers {B} same loaded p r =
-    (is_no_log loaded r.snapshot ≡ true) ⊎ ((k : Rows B) × (p.rows ≡ Some k) × (fit_of same p.failed k r ≡ Others))
+    (is_no_log loaded r.snapshot ≡ true) ⊎ ((k : Rows B) × (p.rows ≡ Some k) × (fit_of same (change_in p.failed) k r ≡ Others))
 
 -- why no log was made of the snapshot in rows: its octets are none of a log, or memory ran out
 abbrev pub IsUnmade : {S Y : Type 0} → (List ℕ → Option S) → Option taken.Snapshot → ActorFault Y → Type 0
@@ -86,11 +110,12 @@ IsUnmade loaded snapshot Disagree = ⊥
 IsUnmade loaded snapshot (LostHere says) = ⊥
 IsUnmade loaded snapshot Worn = ⊥
 
--- whether the failed event's step comes first; else the store has other rows, or the node's word does not count the events that are to come
-abbrev pub judge_of : {Y : Type 0} → Fit → ℕ → Result Bool (ActorFault Y)
-judge_of Others n = Err (Keeper store.Damaged)
-judge_of Left n = if nat_lt n (2 ^ 62) then Ok false else Err Worn
-judge_of Meant n = if nat_lt n (2 ^ 62 - 1) then Ok true else Err Worn
+-- whether the steps of the failed events come first, of which there are so many; else the store has other rows, or the node's word does not count the
+-- events that are to come
+abbrev pub judge_of : {Y : Type 0} → Fit → ℕ → ℕ → Result Bool (ActorFault Y)
+judge_of Others n count = Err (Keeper store.Damaged)
+judge_of Left n count = if nat_lt n (2 ^ 62) then Ok false else Err Worn
+judge_of Meant n count = if nat_lt (n + count) (2 ^ 62) then Ok true else Err Worn
 
 -- why a post did not go on
 module _ {B K : Type 0} (same : B → B → Bool) (holds finds : K → Rows B → Type 0) (is_faithful : K → Type 0) (failures : K → ℕ) where
@@ -108,11 +133,11 @@ module _ {B K : Type 0} (same : B → B → Bool) (holds finds : K → Rows B �
 
   -- it has the rows that were left, or those that the failed commit was to leave, and its word counts the events that are to come
   pub data Found (p : Posted B) (old new : K) (r : Rows B) (meant : Bool) : Type 0 where
-    found_left : (k : Rows B) → p.rows ≡ Some k → Loads old new r → fit_of same p.failed k r ≡ Left → meant ≡ false
+    found_left : (k : Rows B) → p.rows ≡ Some k → Loads old new r → fit_of same (change_in p.failed) k r ≡ Left → meant ≡ false
         → p.seat.part.events < 2 ^ 62
         → Found p old new r meant
-    found_meant : (k : Rows B) → p.rows ≡ Some k → Loads old new r → fit_of same p.failed k r ≡ Meant → meant ≡ true
-        → suc p.seat.part.events < 2 ^ 62
+    found_meant : (k : Rows B) → p.rows ≡ Some k → Loads old new r → fit_of same (change_in p.failed) k r ≡ Meant → meant ≡ true
+        → p.seat.part.events + count_in p.failed < 2 ^ 62
         → Found p old new r meant
 
   -- a load gave these rows: the node was never opened, or it may find them again; and its word counts the events that are to come
@@ -120,12 +145,13 @@ module _ {B K : Type 0} (same : B → B → Bool) (holds finds : K → Rows B �
     anew : p.rows ≡ None → meant ≡ false → Loads old mid r → p.seat.part.events < 2 ^ 62 → Fits p old mid r meant
     again : Found p old mid r meant → Fits p old mid r meant
 
-  -- the word of the node counts no event more, or not the two that the failed event and the renewal are
+  -- the word of the node counts no event more, or not those of the failed commit and the renewal
   pub data IsWorn (p : Posted B) (old new : K) : Type 0 where
     worn_first : p.rows ≡ None → new ≡ old → 2 ^ 62 ≤ p.seat.part.events → IsWorn p old new
-    worn_left : (k r : Rows B) → p.rows ≡ Some k → Loads old new r → fit_of same p.failed k r ≡ Left → 2 ^ 62 ≤ p.seat.part.events
+    worn_left : (k r : Rows B) → p.rows ≡ Some k → Loads old new r → fit_of same (change_in p.failed) k r ≡ Left → 2 ^ 62 ≤ p.seat.part.events
         → IsWorn p old new
-    worn_meant : (k r : Rows B) → p.rows ≡ Some k → Loads old new r → fit_of same p.failed k r ≡ Meant → 2 ^ 62 ≤ suc p.seat.part.events
+    worn_meant : (k r : Rows B) → p.rows ≡ Some k → Loads old new r → fit_of same (change_in p.failed) k r ≡ Meant
+        → 2 ^ 62 ≤ p.seat.part.events + count_in p.failed
         → IsWorn p old new
 
 module _ {B S K : Type 0} (same : B → B → Bool) (loaded : List ℕ → Option S) (holds finds : K → Rows B → Type 0) (is_faithful : K → Type 0)
@@ -139,7 +165,7 @@ module _ {B S K : Type 0} (same : B → B → Bool) (loaded : List ℕ → Optio
         → (f ≡ store.Store → failures old < failures new)
         → (is_faithful new → (r : Rows B) → holds old r → f ≡ store.Damaged → ⊥)
         → Refuses p old new (Keeper f)
-    others : (k r : Rows B) → p.rows ≡ Some k → Loads same holds finds is_faithful failures old new r → fit_of same p.failed k r ≡ Others
+    others : (k r : Rows B) → p.rows ≡ Some k → Loads same holds finds is_faithful failures old new r → fit_of same (change_in p.failed) k r ≡ Others
         → Refuses p old new (Keeper store.Damaged)
     unjudged : (k r : Rows B) → p.rows ≡ Some k → Loads same holds finds is_faithful failures old new r
         → is_ahead same k r ≡ false → is_some p.failed ≡ true

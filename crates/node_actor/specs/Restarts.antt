@@ -18,10 +18,10 @@ use Rattle.node_actor.specs.Views.{View, seen, posted_to, received_from, StandsF
 
 -- an actor begins with the rows of its store, raised by one boot: it stands for a view that was opened with them, or begins anew with them,
 -- nothing waits, no turn or round was taken, and its log is that of the snapshot in the rows, or the empty one
-module _ {B S Y M K : Type 0} (steps : Steps B S Y) (content : M → S) (loaded : List ℕ → Option S) (holds : K → Rows B → Type 0)
-    (is_faithful : K → Type 0) where
+module _ {B S Y M K : Type 0} (same : B → B → Bool) (steps : Steps B S Y) (content : M → S) (loaded : List ℕ → Option S)
+    (holds : K → Rows B → Type 0) (is_faithful : K → Type 0) where
   pub record Opens (p : Posted B) (machine : M) (keeper : K) (a : Acting B M K) : Type 0 where
-    pub renews : Renews holds is_faithful p keeper a.keeper a.seat
+    pub renews : Renews same holds is_faithful p keeper a.keeper a.seat
     pub stands : StandsFor a a.seat
     pub node : a.node.state ≡ started p.me renews.rows
     pub who : (a.node.me ≡ p.me) × (a.node.members ≡ p.members)
@@ -50,7 +50,7 @@ pub record Resumes {B M K : Type 0} (same : B → B → Bool) (p : Posted B) (v 
   pub received : (k : ℕ) → received_from k next ≡ received_from k v
 
 -- none begins: what is found is what was held before, or that with one boot more, and this post is left
-pub record Shuts {B Y K : Type 0} (holds finds : K → Rows B → Type 0) (is_faithful : K → Type 0) (failures : K → ℕ) (p : Posted B) (old : K)
-    (fault : ActorFault Y) (left : Posted B) (new : K) : Type 0 where
+pub record Shuts {B Y K : Type 0} (same : B → B → Bool) (holds finds : K → Rows B → Type 0) (is_faithful : K → Type 0) (failures : K → ℕ)
+    (p : Posted B) (old : K) (fault : ActorFault Y) (left : Posted B) (new : K) : Type 0 where
   pub starts : Starts holds finds failures old new fault
-  pub leaves : Leaves holds is_faithful p old new left fault
+  pub leaves : Leaves same holds is_faithful p old new left fault

@@ -15,6 +15,7 @@ use Rattle.actor_parts.specs.Parts.{IsPrefixOf}
 use Rattle.actor_parts.specs.Snapshots.{base_log, is_no_log, IsMadeOf}
 use Rattle.actor_parts.specs.Handing.{handed_out}
 use Rattle.actor_parts.specs.Steps.{Falls, next_node}
+use Rattle.actor_parts.specs.declared.tried.FailedCommit.TheVariants.{One}
 use Rattle.mail_table.specs.Seats.{Seated}
 use Rattle.node_actor.specs.Actor.{Acting, parts}
 use Rattle.node_actor.specs.Posts.{advanced}
@@ -63,7 +64,7 @@ module _ {B S Y M K : Type 0} (steps : Steps B S Y) (content : M → S) (holds :
     pub waits : new.waiting ≡ old.waiting
     pub log : new.log ≡ old.log
     pub falls : Falls finds failures o.change old.node.state.rows old.keeper new.keeper fault
-    pub failed : new.failed ≡ Some o
+    pub failed : new.failed ≡ Some (One o)
     pub seat : new.seat ≡ old.seat
 
   -- all that may come of an outcome, if the machine is to go on from this log

@@ -1,5 +1,5 @@
 -- Views of an actor: what is known of its node, and of the packets that it exchanged.
-use Rattle.std.specs.Prelude.{◌≡◌, ℕ, Bool, ◌==◌, ◌&&◌, not, Option, Some, None, List, [], ◌++◌, All, Contains, filter, map, option_to_list}
+use Rattle.std.specs.Prelude.{◌≡◌, ℕ, Bool, true, ◌==◌, ◌&&◌, not, Option, Some, None, List, [], ◌++◌, All, Contains, filter, map, option_to_list}
 use Rattle.circular_buffer.specs.Buffer.{keep_last}
 use Rattle.paxos_packets.specs.Members.{is_member}
 use Rattle.paxos_packets.specs.declared.packet.Packet.{Packet}
@@ -35,10 +35,12 @@ posted_to k v = through (box_of v.members v.part.me k) v.part.posted
 abbrev pub received_from : {B : Type 0} → ℕ → View B → List (Packet B)
 received_from k v = filter (λ p. p.sender == k) (filter (is_for v.part.me v.members) (packets_of v.part.received))
 
--- the actor is the view's: this is what its seat knows, its node is the view's node, and what waits is among what that sent
+-- the actor is the view's: this is what its seat knows, its node is the view's node, if it is up, and has that one's rows, and what waits
+-- is among what that sent
 pub record StandsFor {B M K : Type 0} (a : Acting B M K) (v : View B) : Type 0 where
   pub seat : a.seat ≡ v
-  pub node : a.node.state ≡ (seen v).node
+  pub node : a.node.state.up ≡ true → a.node.state ≡ (seen v).node
+  pub rows : a.node.state.rows ≡ (seen v).node.rows
   pub waits : (k : ℕ) → IsPeer a.node.me a.node.members k → All (Contains (seen v).sent) (waiting k a.waiting)
 
 -- the view goes on by an event, or by none

@@ -410,7 +410,7 @@ impl<M: Machine, K: Keeper<M::Body>> Actor<M, K> {
         self.parts.log()
     }
 
-    /// Takes the node down. Its rows, and the outcome whose commit failed, are left for `restart`. Does not allocate.
+    /// Takes the node down. Its rows, and what a failed commit was to leave, are left for `restart`. Does not allocate.
     pub fn crash(self) -> (Post<M::Body>, K)
         ensures left { (view : View M.Body) → StandsFor self view → LeftOf M.Body.same result.0 view }
         ensures me { result.0.me ≡ self.node.me }

@@ -29,7 +29,7 @@ pub(crate) struct Begun<B: Body> {
 }
 
 // Begins a boot of the node from what is left of it, with its store opened again. Opens the node if it was never opened; otherwise goes on
-// from its rows, or from those that a failed commit was to leave, whose event's step it takes first. Returns also the log with which it begins:
+// from its rows, or from those that a failed commit was to leave, whose events' steps it takes first. Returns also the log with which it begins:
 // that of the snapshot in its rows, or the empty one with this machine.
 //
 // After a fault the post is handed back, and serves again. `KeeperFault::Damaged` if the store has other rows, or no log is made of their
@@ -44,10 +44,10 @@ pub(crate) fn begin<M: Machine, K: Keeper<M::Body>>(
 ) -> Result<(Begun<M::Body>, AppliedLog<M>), (ActorFault<M::Say>, Post<M::Body>)>
     requires owned { Owns mail.now post.seat }
     ensures ok { IfOk result (λ it.
-        Begins K.holds K.is_faithful K.is_failed post keeper.old keeper.new it.0.node it.0.outboxes it.0.seat) }
+        Begins M.Body.same K.holds K.is_faithful K.is_failed post keeper.old keeper.new it.0.node it.0.outboxes it.0.seat) }
     ensures log { IfOk result (λ it. IsFirstLog M.content M.loaded machine it.0.node.state.rows.snapshot it.1) }
     ensures refuses { IfErr result (λ e. Refuses M.Body.same M.loaded K.holds K.finds K.is_faithful K.failures post keeper.old keeper.new e.0) }
-    ensures leaves { IfErr result (λ e. Leaves K.holds K.is_faithful post keeper.old keeper.new e.1 e.0) }
+    ensures leaves { IfErr result (λ e. Leaves M.Body.same K.holds K.is_faithful post keeper.old keeper.new e.1 e.0) }
     ensures owned { IfOk result (λ it. Owns mail.now it.0.seat) }
     ensures still_owned { IfErr result (λ e. Owns mail.now e.1.seat) }
     ensures left { IsLeft M.Body.same post }
@@ -76,14 +76,14 @@ fn sit<B: Body>(
     requires within { ready.rows.boot ≤ last_boot }
     ensures node { IfOk result (λ begun. IsNodeOf post.me post.members ready.rows begun.node) }
     ensures outboxes { IfOk result (λ begun. begun.outboxes ≡ ready.outboxes) }
-    ensures seat { IfOk result (λ begun. begun.seat ≡ renewed ready.rows (seat_before ready.meant post.failed post.seat)) }
+    ensures seat { IfOk result (λ begun. begun.seat ≡ renewed ready.rows (seat_before B.same ready.meant post.failed post.seat)) }
     ensures owned { IfOk result (λ begun. Owns mail.now begun.seat) }
     ensures left { IfErr result (λ left. left ≡ record {
       me = post.me;
       members = post.members;
       rows = Some ready.rows;
       failed = None;
-      seat = renewed ready.rows (seat_before ready.meant post.failed post.seat);
+      seat = renewed ready.rows (seat_before B.same ready.meant post.failed post.seat);
     }) }
     ensures still_owned { IfErr result (λ left. Owns mail.now left.seat) }
 {

@@ -6,7 +6,6 @@ ghost use Rattle.paxos_packets.specs.Vote.{put_votes};
 ghost use Rattle.paxos_acceptor.specs.Acceptor.{adopted};
 ghost use Rattle.node_actor.specs.Compare.{same_promise, same_base, same_but_boot, is_ahead, is_later, fit_of};
 
-use paxos_node::Outcome;
 use paxos_packets::{Ballot, Body, Change, Memory, Rows, Snapshot};
 use std::alloc::Global;
 
@@ -18,11 +17,11 @@ pub(crate) enum Fit {
     Others,
 }
 
-// Compares the rows with those that were kept, and with those that the outcome was to leave, apart from a boot number that is not lower. Only
-// the second comparison needs memory.
+// Compares the rows with those that were kept, and with those that the failed change was to leave, apart from a boot number that is not lower.
+// Only the second comparison needs memory.
 pub(crate) fn fit_of<B: Body>(
     alloc: Global,
-    failed: Option<&Outcome<B>>,
+    failed: Option<&Change<B>>,
     kept: &Rows<B>,
     rows: &Rows<B>,
 ) -> Result<Fit, Memory>
@@ -35,8 +34,8 @@ pub(crate) fn fit_of<B: Body>(
     }
     match failed {
         None => Ok(Fit::Others),
-        Some(outcome) => {
-            if is_meant(alloc, outcome, kept, rows)? {
+        Some(change) => {
+            if is_meant(alloc, change, kept, rows)? {
                 Ok(Fit::Meant)
             } else {
                 Ok(Fit::Others)
@@ -45,19 +44,19 @@ pub(crate) fn fit_of<B: Body>(
     }
 }
 
-// Returns whether the rows are those that the outcome was to leave, apart from a boot number that is not lower.
+// Returns whether the rows are those that the change was to leave, apart from a boot number that is not lower.
 fn is_meant<B: Body>(
     alloc: Global,
-    outcome: &Outcome<B>,
+    change: &Change<B>,
     kept: &Rows<B>,
     rows: &Rows<B>,
 ) -> Result<bool, Memory>
-    ensures { IfOk result (λ meant. meant ≡ is_ahead B.same (adopted kept.now outcome.now.change) rows.now) }
+    ensures { IfOk result (λ meant. meant ≡ is_ahead B.same (adopted kept.now change.now) rows.now) }
 {
     let mut meant = kept.copy(alloc)?;
-    put(alloc, &mut meant, &outcome.change)?;
-    if outcome.change.promised.is_some() {
-        meant.promised = outcome.change.promised;
+    put(alloc, &mut meant, change)?;
+    if change.promised.is_some() {
+        meant.promised = change.promised;
     }
     Ok(is_ahead(&meant, rows))
 }

@@ -47,9 +47,9 @@ pub fn snapshot_examples()
     ensures downs { told_length (down rested_rows) ≡ 0 }
 
     // after a cut whose commit failed a store may have the rows of before, or those that it was to leave, but no others
-    ensures left { fit_of same_number (Some cut_outcome) voted_rows voted_rows ≡ Left }
-    ensures meant { fit_of same_number (Some cut_outcome) voted_rows cut_rows ≡ Meant }
-    ensures others { fit_of same_number (Some cut_outcome) voted_rows bare_cut_rows ≡ Others }
+    ensures left { fit_of same_number (Some cut_outcome.change) voted_rows voted_rows ≡ Left }
+    ensures meant { fit_of same_number (Some cut_outcome.change) voted_rows cut_rows ≡ Meant }
+    ensures others { fit_of same_number (Some cut_outcome.change) voted_rows bare_cut_rows ≡ Others }
 {}
 
 /// Which events a round makes, and which packets it posts, computed. Does not allocate.

@@ -8,15 +8,18 @@ mod beginning;
 mod compare;
 mod event;
 mod fetching;
+mod flushing;
 mod heard;
 mod hearing;
 pub mod laws;
+mod making;
 mod post;
 mod posting;
 mod preparing;
 mod restart;
 mod resuming;
 mod rounding;
+mod treating;
 mod turning;
 
 pub use actor::Actor;

@@ -2,19 +2,20 @@
 ghost use Rattle.std.specs.Prelude.{◌≡◌, option_copied};
 ghost use Rattle.paxos_packets.specs.Members.{IsMember};
 ghost use Rattle.node_actor.specs.Posts.{IsLeft};
+ghost use Rattle.node_actor.specs.Preparing.{change_in, count_in};
 
+use actor_parts::FailedCommit;
 use mail_table::NodeSeat;
-use paxos_node::Outcome;
-use paxos_packets::{Body, Members, Rows};
+use paxos_packets::{Body, Change, Members, Rows};
 use std::marker::Model;
 
-/// What is left of an actor that crashed, or that could not begin: the node's number, the members, its last rows if it was ever opened, the
-/// outcome whose commit failed, if one did, and the node's seat at the table. An actor goes on from there.
+/// What is left of an actor that crashed, or that could not begin: the node's number, the members, its last rows if it was ever opened, what a
+/// failed commit was to leave, if one failed, and the node's seat at the table. An actor goes on from there.
 pub struct Post<B: Body> {
     me: u8,
     members: Members,
     rows: Option<Rows<B>>,
-    failed: Option<Outcome<B>>,
+    failed: Option<FailedCommit<B>>,
     seat: NodeSeat<B>,
 }
 
@@ -46,7 +47,7 @@ impl<B: Body> Post<B> {
         me: u8,
         members: Members,
         rows: Option<Rows<B>>,
-        failed: Option<Outcome<B>>,
+        failed: Option<FailedCommit<B>>,
         seat: NodeSeat<B>,
     ) -> Post<B>
         requires { IsLeft B.same (record { me = me; members = members; rows = rows; failed = failed; seat = seat }) }
@@ -97,11 +98,24 @@ impl<B: Body> Post<B> {
         seat
     }
 
-    // Returns the outcome whose commit failed.
-    pub(crate) fn failed(&self) -> Option<&Outcome<B>>
-        ensures { option_copied result ≡ self.now.failed }
+    // Returns the change whose commit failed.
+    pub(crate) fn change(&self) -> Option<&Change<B>>
+        ensures { option_copied result ≡ change_in self.now.failed }
     {
-        self.failed.as_ref()
+        match &self.failed {
+            Some(meant) => Some(meant.change()),
+            None => None,
+        }
+    }
+
+    // Returns of how many events that is.
+    pub(crate) fn count(&self) -> u64
+        ensures { result ≡ count_in self.now.failed }
+    {
+        match &self.failed {
+            Some(meant) => meant.count(),
+            None => 0,
+        }
     }
 
     // Returns how many events the node's word has counted.
@@ -111,8 +125,8 @@ impl<B: Body> Post<B> {
         self.seat.events()
     }
 
-    // Returns the outcome whose commit failed, and the seat.
-    pub(crate) fn into_parts(self) -> (Option<Outcome<B>>, NodeSeat<B>)
+    // Returns what the failed commit was to leave, and the seat.
+    pub(crate) fn into_parts(self) -> (Option<FailedCommit<B>>, NodeSeat<B>)
         ensures failed { result.0 ≡ self.failed }
         ensures seat { result.1 ≡ self.seat }
         ensures left { IsLeft B.same self }

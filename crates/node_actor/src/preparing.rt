@@ -18,7 +18,7 @@ use replica_machine::{AppliedLog, LoadFault, Machine};
 use std::alloc::Global;
 use store_keeper::{Keeper, KeeperFault};
 
-// What a node begins with: the rows of its new boot, empty outboxes, and whether the step of the event whose commit failed comes first.
+// What a node begins with: the rows of its new boot, empty outboxes, and whether the steps of the events whose commit failed come first.
 #[derive(Drop)]
 pub(crate) struct Ready<B> {
     pub(crate) rows: Rows<B>,
@@ -101,9 +101,9 @@ fn find_again<M: Machine, K: Keeper<M::Body>>(
         Ok(rows) => rows,
         Err(fault) => return Err(ActorFault::Keeper(fault)),
     };
-    match fit_of(alloc, post.failed(), kept, &rows) {
+    match fit_of(alloc, post.change(), kept, &rows) {
         Err(_) => Err(ActorFault::Memory),
-        Ok(fit) => judged(fit, post.events(), rows),
+        Ok(fit) => judged(fit, post.events(), post.count(), rows),
     }
 }
 
@@ -111,18 +111,19 @@ fn find_again<M: Machine, K: Keeper<M::Body>>(
 fn judged<B: Drop, Y: Drop>(
     fit: Fit,
     events: u64,
+    count: u64,
     rows: Rows<B>,
 ) -> Result<(Rows<B>, bool), ActorFault<Y>>
-    ensures ok { IfOk result (λ it. (it.0 ≡ rows) × (judge_of {Y = Y} fit events ≡ Ok it.1)) }
-    ensures err { IfErr result (λ fault. judge_of fit events ≡ Err fault) }
+    ensures ok { IfOk result (λ it. (it.0 ≡ rows) × (judge_of {Y = Y} fit events count ≡ Ok it.1)) }
+    ensures err { IfErr result (λ fault. judge_of fit events count ≡ Err fault) }
 {
-    let meant = judge(fit, events)?;
+    let meant = judge(fit, events, count)?;
     Ok((rows, meant))
 }
 
-// Returns whether the step of the event whose commit failed comes first.
-fn judge<Y: Drop>(fit: Fit, events: u64) -> Result<bool, ActorFault<Y>>
-    ensures { result ≡ judge_of fit events }
+// Returns whether the steps of the events whose commit failed come first.
+fn judge<Y: Drop>(fit: Fit, events: u64, count: u64) -> Result<bool, ActorFault<Y>>
+    ensures { result ≡ judge_of fit events count }
 {
     match fit {
         Fit::Others => Err(ActorFault::Keeper(KeeperFault::Damaged)),
@@ -134,7 +135,7 @@ fn judge<Y: Drop>(fit: Fit, events: u64) -> Result<bool, ActorFault<Y>>
             }
         }
         Fit::Meant => {
-            if events < MOST_EVENTS - 1 {
+            if events.saturating_add(count) < MOST_EVENTS {
                 Ok(true)
             } else {
                 Err(ActorFault::Worn)

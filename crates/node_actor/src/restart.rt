@@ -40,14 +40,14 @@ impl<M: Machine, K: Keeper<M::Body>> Actor<M, K> {
         requires table { seat.members ≡ members }
         requires fresh { seat.part.seen.opened ≡ Never }
         requires machine { M.has_failed machine ≡ false }
-        ensures opens { IfOk result (λ actor. Opens M.steps M.content M.loaded K.holds K.is_faithful
+        ensures opens { IfOk result (λ actor. Opens M.Body.same M.steps M.content M.loaded K.holds K.is_faithful
             (record { me = me; members = members; rows = None; failed = None; seat = seat }) machine keeper actor) }
         ensures first { IfOk result (OpensFirst K.holds me seat) }
         ensures refuses { IfErr result (λ left. Refuses M.Body.same M.loaded K.holds K.finds K.is_faithful K.failures
             (record { me = me; members = members; rows = None; failed = None; seat = seat }) keeper left.2 left.0) }
         ensures sound { (r : Rows M.Body) → K.holds keeper r → is_no_log M.loaded r.snapshot ≡ false → IfErr result (λ left.
             K.is_faithful left.2 → left.0 ≡ ActorFault.Keeper KeeperFault.Damaged → ⊥) }
-        ensures shuts { IfErr result (λ left. Shuts K.holds K.finds K.is_faithful K.failures
+        ensures shuts { IfErr result (λ left. Shuts M.Body.same K.holds K.finds K.is_faithful K.failures
             (record { me = me; members = members; rows = None; failed = None; seat = seat }) keeper left.0 left.1 left.2) }
         ensures owned { IfOk result (λ actor. Owns mail.now actor.seat) }
         ensures still_owned { IfErr result (λ left. Owns mail.now left.1.seat) }
@@ -57,8 +57,8 @@ impl<M: Machine, K: Keeper<M::Body>> Actor<M, K> {
     }
 
     /// Goes on from what is left of an actor, with its store opened again and the machine in its first content. Opens the node if it was
-    /// never opened; otherwise takes the step of the event whose commit failed, if the store has the rows that it was to leave, and begins
-    /// the next boot. The log is that of the snapshot in the rows, of which a machine is made before the boot begins; without one it is empty,
+    /// never opened; otherwise takes the steps of the events whose commit failed, if the store has the rows that it was to leave, and
+    /// begins the next boot. The log is that of the snapshot in the rows, of which a machine is made before the boot begins; without one it is empty,
     /// and this machine follows it.
     ///
     /// `KeeperFault::Damaged` if the store has other rows than the node had, and than the failed commit was to leave, or if no log is made of
@@ -74,14 +74,14 @@ impl<M: Machine, K: Keeper<M::Body>> Actor<M, K> {
         requires owned { Owns mail.now post.seat }
         requires machine { M.has_failed machine ≡ false }
         ensures opens { IfOk result (λ actor.
-            Opens M.steps M.content M.loaded K.holds K.is_faithful post machine keeper actor) }
+            Opens M.Body.same M.steps M.content M.loaded K.holds K.is_faithful post machine keeper actor) }
         ensures resumes { (view : View M.Body) (r : Rows M.Body) → LeftOf M.Body.same post view → K.holds keeper r →
             IfOk result (λ actor. K.is_faithful actor.keeper → Resumes M.Body.same post view r actor) }
         ensures refuses { IfErr result (λ left.
             Refuses M.Body.same M.loaded K.holds K.finds K.is_faithful K.failures post keeper left.2 left.0) }
         ensures exact { (r : Rows M.Body) → K.holds keeper r → IfErr result (λ left.
             K.is_faithful left.2 → left.0 ≡ ActorFault.Keeper KeeperFault.Damaged → HasOthers M.Body.same M.loaded post r) }
-        ensures shuts { IfErr result (λ left. Shuts K.holds K.finds K.is_faithful K.failures post keeper left.0 left.1 left.2) }
+        ensures shuts { IfErr result (λ left. Shuts M.Body.same K.holds K.finds K.is_faithful K.failures post keeper left.0 left.1 left.2) }
         ensures owned { IfOk result (λ actor. Owns mail.now actor.seat) }
         ensures still_owned { IfErr result (λ left. Owns mail.now left.1.seat) }
     {

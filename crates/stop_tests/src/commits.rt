@@ -44,16 +44,21 @@ fn each_commit_fails(rt: HostRuntime) {
     check_eq!(&rt; failures(&rt, rt.alloc(), true, Course::Whole), (5, 0));
 }
 
+// By rounds node 2 makes three commits, each in a round of its own: of its promise, of its vote in slot 1, and of its votes in slots 2 to 4 together,
+// since node 1 proposes the boot and both acts of node 2 in one event, so that they come in one batch.
 #[test]
 fn each_commit_of_rounds_fails(rt: HostRuntime) {
-    check_eq!(&rt; failures(&rt, rt.alloc(), false, Course::ByRounds), (5, 0));
-    check_eq!(&rt; failures(&rt, rt.alloc(), true, Course::ByRounds), (5, 0));
+    check_eq!(&rt; failures(&rt, rt.alloc(), false, Course::ByRounds), (3, 0));
+    check_eq!(&rt; failures(&rt, rt.alloc(), true, Course::ByRounds), (3, 0));
 }
 
+// Then four more: of the snapshot, which is committed alone, of its vote in slot 5, of its own cut, and of its vote in slot 6. It takes the
+// snapshot after the second and the third of all. After the others it has it, or has learned what it stands for, from a batch that was in its box:
+// slot 1 of node 1 after the first one, and four slots of node 3 after the fourth one.
 #[test]
 fn each_commit_of_rounds_with_cuts_fails(rt: HostRuntime) {
-    check_eq!(&rt; failures(&rt, rt.alloc(), false, Course::CutByRounds), (9, 4));
-    check_eq!(&rt; failures(&rt, rt.alloc(), true, Course::CutByRounds), (9, 4));
+    check_eq!(&rt; failures(&rt, rt.alloc(), false, Course::CutByRounds), (7, 2));
+    check_eq!(&rt; failures(&rt, rt.alloc(), true, Course::CutByRounds), (7, 2));
 }
 
 #[test]

@@ -88,8 +88,7 @@ returns-in-Err-clause-sound g c =
       rest = c.make_room.ensures.rest;
     } in
     rw c.spoil_at.ensures (fallen_sound _ _ _ c.args.outcome c.args.parts.now c.make_room.new.self c.commit.new.self c.requires.sound
-    c.requires.serving
-    c.requires.plan room c.commit.ensures.rest)
+    c.requires.serving room c.commit.ensures.rest)
 
 pub returns-in-Err-clause-seated : goal.returns-in-Err-clause-seated
 returns-in-Err-clause-seated g c =
@@ -101,7 +100,7 @@ returns-in-Err-clause-seated g c =
     } in
     rw c.spoil_at.ensures (seated_fallen g.M.Body.Body.same c.args.outcome c.args.parts.now c.make_room.new.self c.commit.new.self
     c.args.seat.now
-    c.requires.follows room c.commit.ensures.rest c.requires.seated)
+    c.requires.follows room c.commit.ensures.rest c.requires.plan (c.requires.sound.serves c.requires.serving).up c.requires.seated)
 
 pub returns-in-Err-clause-did : goal.returns-in-Err-clause-did
 returns-in-Err-clause-did g c =
@@ -160,7 +159,7 @@ returns-in-Ok-commit-clause-seated g c =
     g.K.Keeper.is_failed
     base c.args.outcome c.args.parts.now c.go_from.new.self c.take_over.new.self c.args.seat.now c.step.new.seat c.step.ensures.advanced
     c.requires.sound is_ready
-    serving.committed c.take_over.ensures.who c.take_over.result c.take_over.ensures.follows c.requires.seated
+    serving.committed serving.up c.take_over.ensures.who c.take_over.result c.take_over.ensures.follows c.requires.seated
 
 pub returns-in-Ok-commit-clause-did : goal.returns-in-Ok-commit-clause-did
 returns-in-Ok-commit-clause-did g c =

@@ -36,7 +36,7 @@ returns-then-not-has_applied-clause-cuts g c = λ view reach.
     let none : nat_lt 0 (length c.args.parts.now.log.applied) ≡ false = search rules in
     let serving = c.requires.sound.serves fresh in
     let is_node : c.args.parts.now.node.state ≡ view.part.seen.node =
-    sym c.requires.seated.node ∙ ap (λ x. x.node) reach.seen in
+    sym (c.requires.seated.node (c.requires.sound.serves fresh).up) ∙ ap (λ x. x.node) reach.seen in
     let never : may_cut (own_cut g.M.Machine.saved g.M.Machine.content c.args.parts.now.log) view.part.seen.node ≡ false =
     cuts_none _ view.part.seen.node
     (ap (λ es. nat_lt 0 (length es)) (sym (serving.followed ∙ ap (λ x. x.applied) is_node)) ∙ none) in
@@ -59,8 +59,8 @@ returns-in_default-clause-cuts g c = λ view reach.
     let fresh : c.args.parts.now.spoiled ≡ false = search rules in
     let e = Cut c.args.parts.now.node.me (own_cut g.M.Machine.saved g.M.Machine.content c.args.parts.now.log) in
     let told = memory_acts g.M.Body.Body.same g.M.Machine.steps g.M.Machine.content g.M.Machine.loaded g.K.Keeper.holds
-    g.K.Keeper.finds g.K.Keeper.failures g.K.Keeper.is_failed e c.args.parts.now view c.args.seat.now c.requires.seated reach
-    fresh (c.requires.sound.serves fresh) (seated_spoiled g.M.Body.Body.same c.args.parts.now c.args.seat.now c.requires.seated) (refl, refl)
+    g.K.Keeper.finds g.K.Keeper.failures g.K.Keeper.is_failed e c.args.parts.now view c.args.seat.now c.requires.seated
+    (c.requires.sound.serves fresh).up reach fresh (c.requires.sound.serves fresh) (seated_spoiled g.M.Body.Body.same c.args.parts.now c.args.seat.now c.requires.seated) (refl, refl)
     (cut_agrees g.M.Body.Body.same c.args.parts.now.node.members c.args.parts.now.node.me _ c.args.parts.now.node.state) in
     subst (λ p. Acts g.M.Body.Body.same g.M.Machine.steps g.M.Machine.content g.M.Machine.loaded
     g.K.Keeper.holds g.K.Keeper.finds g.K.Keeper.failures (Some e) (acting c.args.parts.now view)
@@ -81,7 +81,7 @@ pub returns-in-None-clause-cuts : goal.returns-in-None-clause-cuts
 returns-in-None-clause-cuts g c = λ view reach.
     let fresh : c.args.parts.now.spoiled ≡ false = search rules in
     let is_node : c.args.parts.now.node.state ≡ view.part.seen.node =
-    sym c.requires.seated.node ∙ ap (λ x. x.node) reach.seen in
+    sym (c.requires.seated.node (c.requires.sound.serves fresh).up) ∙ ap (λ x. x.node) reach.seen in
     let cut = own_cut g.M.Machine.saved g.M.Machine.content c.args.parts.now.log in
     let here : may_cut cut c.args.parts.now.node.state ≡ false = sym c.in-Ok.ensures.exactly ∙ ap is_some c.in-None.is in
     cuts_idle _ _ _ _ _ _ _ _ (acting c.args.parts.now view) (acting c.args.parts.now c.args.seat.now) view c.pass-in-None.result
@@ -116,7 +116,7 @@ carry_out-requires-clause-follows g c =
     (Cut c.args.parts.now.node.me (own_cut g.M.Machine.saved g.M.Machine.content c.args.parts.now.log)) c.in-Some.outcome c.args.parts.now
     c.args.seat.now
     (cut_plans c.args.parts.now.node.me _ c.args.parts.now.node.state (c.requires.sound.serves fresh).up (sym c.in-Ok.ensures.exactly ∙ ap is_some c.in-Some.is))
-    planned c.requires.seated tt
+    planned c.requires.seated (c.requires.sound.serves fresh).up tt
 
 pub carry_out-requires-clause-base : goal.carry_out-requires-clause-base
 carry_out-requires-clause-base g c =
@@ -136,14 +136,14 @@ returns-in-Some-clause-cuts g c = λ view reach.
     ≡ own_cut g.M.Machine.saved g.M.Machine.content c.args.parts.now.log)) c.in-Some.is c.in-Ok.ensures.rests in
     let serving = c.requires.sound.serves fresh in
     let is_node : c.args.parts.now.node.state ≡ view.part.seen.node =
-    sym c.requires.seated.node ∙ ap (λ x. x.node) reach.seen in
+    sym (c.requires.seated.node (c.requires.sound.serves fresh).up) ∙ ap (λ x. x.node) reach.seen in
     let cut = own_cut g.M.Machine.saved g.M.Machine.content c.args.parts.now.log in
     let o = c.in-Some.outcome in
     let may : may_cut cut c.args.parts.now.node.state ≡ true = sym c.in-Ok.ensures.exactly ∙ ap is_some c.in-Some.is in
     cuts_acts _ _ _ _ _ _ _ _ (acting c.args.parts.now view) (acting c.carry_out.new.parts c.carry_out.new.seat) view c.carry_out.result
     (ap (may_cut cut) (sym is_node) ∙ may)
     (acts_of _ _ _ _ _ _ _ _ (Cut c.args.parts.now.node.me cut) o c.args.parts.now c.carry_out.new.parts view c.args.seat.now
-    c.carry_out.new.seat c.requires.sound c.requires.seated c.carry_out.ensures.seated reach
+    c.carry_out.new.seat c.requires.sound c.requires.seated serving.up c.carry_out.ensures.seated reach
     (cut_plans c.args.parts.now.node.me cut c.args.parts.now.node.state serving.up may) planned refl refl
     (base_log None o.change.snapshot c.args.parts.now.log)
     (joins_cut g.M.Machine.steps g.M.Machine.content g.M.Machine.loaded g.K.Keeper.holds g.K.Keeper.is_failed c.args.parts.now o serving

@@ -20,7 +20,7 @@ carry_on-requires-clause-follows g c =
     let fresh : c.args.parts.now.spoiled ≡ false = search rules in
     follows_plan g.M.Body.Body.same c.args.event.now c.in-Ok.outcome c.args.parts.now c.args.seat.now (c.requires.own fresh)
     c.in-Ok.ensures.planned.3
-    c.requires.seated c.requires.received
+    c.requires.seated (c.requires.sound.serves fresh).up c.requires.received
 
 pub returns-in-Ok-clause-acts : goal.returns-in-Ok-clause-acts
 returns-in-Ok-clause-acts g c = λ got view reach.
@@ -29,7 +29,7 @@ returns-in-Ok-clause-acts g c = λ got view reach.
     let serving = c.requires.sound.serves fresh in
     acts_on _ _ _ _ _ _ _ _ c.args.event.now c.in-Ok.outcome c.args.parts.now c.carry_on.new.parts view c.args.seat.now c.carry_on.new.seat
     c.requires.sound
-    c.requires.seated c.carry_on.ensures.seated reach (c.requires.own fresh) p.3 p.0 p.1 serving
+    c.requires.seated serving.up c.carry_on.ensures.seated reach (c.requires.own fresh) p.3 p.0 p.1 serving
     (from_packet g.M.Body.Body.same c.args.parts.now.node.me c.args.parts.now.node.members c.args.event.now c.args.parts.now.node.state
     c.in-Ok.outcome serving.up (c.requires.own fresh) c.requires.other p.3) fresh
     (shorts _ _ _ c.args.parts.now c.requires.sound c.limits.ensures) c.carry_on.result c.carry_on.ensures.did
@@ -48,7 +48,7 @@ returns-in-Err-Disagree-clause-acts g c = λ got view reach.
     (λ outcome. Planned g.M.Body.Body.same c.args.parts.now.node.members c.args.event.now c.args.parts.now.node.state outcome)
     c.in-Err-Disagree.field-0 fault c.in-Err-Disagree.ensures.planned in
     rw c.spoil.ensures (disagree_acts g.M.Body.Body.same _ _ _ _ _ _ g.K.Keeper.is_failed c.args.event.now c.args.parts.now view
-    c.args.seat.now c.requires.seated reach fresh
+    c.args.seat.now c.requires.seated (c.requires.sound.serves fresh).up reach fresh
     (c.requires.sound.serves fresh) (seated_spoiled g.M.Body.Body.same c.args.parts.now c.args.seat.now c.requires.seated) refused)
 
 pub returns-in-Err-Memory-clause-seated : goal.returns-in-Err-Memory-clause-seated
@@ -66,8 +66,8 @@ returns-in-Err-Memory-clause-acts g c = λ got view reach.
     c.in-Err-Memory.field-0 fault c.in-Err-Memory.ensures.planned in
     let agrees = c.in-Err-Memory.ensures.memory (ap Err fault) in
     let told = memory_acts g.M.Body.Body.same g.M.Machine.steps g.M.Machine.content g.M.Machine.loaded g.K.Keeper.holds
-    g.K.Keeper.finds g.K.Keeper.failures g.K.Keeper.is_failed c.args.event.now c.args.parts.now view c.args.seat.now c.requires.seated reach
-    fresh (c.requires.sound.serves fresh) (seated_spoiled g.M.Body.Body.same c.args.parts.now c.args.seat.now c.requires.seated) refused
+    g.K.Keeper.finds g.K.Keeper.failures g.K.Keeper.is_failed c.args.event.now c.args.parts.now view c.args.seat.now c.requires.seated
+    (c.requires.sound.serves fresh).up reach fresh (c.requires.sound.serves fresh) (seated_spoiled g.M.Body.Body.same c.args.parts.now c.args.seat.now c.requires.seated) refused
     agrees in
     subst (λ p. ActsWith g.M.Body.Body.same g.M.Machine.steps g.M.Machine.content g.M.Machine.loaded
     g.K.Keeper.holds g.K.Keeper.finds g.K.Keeper.failures got (Some c.args.event.now) (acting c.args.parts.now view)
@@ -81,7 +81,7 @@ returns-in-Err-Memory-clause-acts g c = λ got view reach.
 pub returns-in-Ok-clause-seat : goal.returns-in-Ok-clause-seat
 returns-in-Ok-clause-seat g c = λ fresh.
     seat_on _ _ _ _ _ _ _ _ c.args.event.now c.in-Ok.outcome c.args.parts.now c.carry_on.new.parts c.args.seat.now c.args.seat.now
-    c.carry_on.new.seat c.requires.sound c.requires.seated c.carry_on.ensures.seated
+    c.carry_on.new.seat c.requires.sound c.requires.seated (c.requires.sound.serves fresh).up c.carry_on.ensures.seated
     (reaches_here c.args.parts.now.spoiled (Some c.args.event.now) c.args.seat.now) (c.requires.own fresh) c.in-Ok.ensures.planned.3
     c.carry_on.result c.carry_on.ensures.did
 

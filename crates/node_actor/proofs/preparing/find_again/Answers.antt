@@ -2,8 +2,8 @@ use Rattle.std.proofs.Common.{◌≡◌, ◌<◌, ◌∙◌, true, ap, subst, ru
 use Rattle.std.specs.Prelude.{Err, is_some}
 use Rattle.store_keeper.specs.declared.fault.KeeperFault.TheVariants as store
 use Rattle.node_actor.specs.Compare.{fit_of}
-use Rattle.node_actor.specs.Preparing.{Loads, unread, unjudged}
-use Rattle.node_actor.proofs.Booting.{found_of, refused_of}
+use Rattle.node_actor.specs.Preparing.{change_in, Loads, unread, unjudged}
+use Rattle.node_actor.proofs.Booting.{failed_some, found_of, refused_of}
 use Rattle.node_actor.proofs.preparing.find_again.Goals as goal
 
 pub returns-in-Err-clause-err : goal.returns-in-Err-clause-err
@@ -16,7 +16,8 @@ returns-in-Err-clause-err g c =
 
 pub returns-in-Err-fit_of-clause-err : goal.returns-in-Err-fit_of-clause-err
 returns-in-Err-fit_of-clause-err g c =
-    let failed : is_some c.args.post.now.failed ≡ true = subst (λ f. is_some f ≡ true) c.failed.ensures c.in-Err-fit_of.ensures.failed in
+    let failed : is_some c.args.post.now.failed ≡ true =
+    failed_some c.args.post.now.failed (subst (λ f. is_some f ≡ true) c.change.ensures c.in-Err-fit_of.ensures.failed) in
     unjudged c.args.kept.now c.in-Ok.rows c.requires (record {
       stays = record { same_rows = c.load.ensures.same; found = c.load.ensures.found; counted = c.load.ensures.counts };
       held = c.in-Ok.ensures.held;
@@ -32,9 +33,10 @@ returns-in-Ok-fit_of-clause-ok g c =
       held = c.in-Ok.ensures.held;
       right = c.in-Ok.ensures.right;
     } in
-    let fits : fit_of g.M.Body.Body.same c.args.post.now.failed c.args.kept.now c.in-Ok.rows ≡ c.in-Ok-fit_of.fit = search rules in
+    let fits : fit_of g.M.Body.Body.same (change_in c.args.post.now.failed) c.args.kept.now c.in-Ok.rows ≡ c.in-Ok-fit_of.fit = search rules in
     found_of g.M.Body.Body.same g.M.Machine.loaded g.K.Keeper.holds g.K.Keeper.finds g.K.Keeper.is_faithful g.K.Keeper.failures
-    c.args.post.now c.args.keeper.now c.load.new.self c.args.kept.now c.in-Ok.rows c.in-Ok-fit_of.fit c.events.result c.requires loads fits c.events.ensures c.judged.result
+    c.args.post.now c.args.keeper.now c.load.new.self c.args.kept.now c.in-Ok.rows c.in-Ok-fit_of.fit c.events.result
+    c.count.result c.requires loads fits c.events.ensures c.count.ensures c.judged.result
     c.judged.ensures.ok
 
 pub returns-in-Ok-fit_of-clause-err : goal.returns-in-Ok-fit_of-clause-err
@@ -46,7 +48,8 @@ returns-in-Ok-fit_of-clause-err g c =
       held = c.in-Ok.ensures.held;
       right = c.in-Ok.ensures.right;
     } in
-    let fits : fit_of g.M.Body.Body.same c.args.post.now.failed c.args.kept.now c.in-Ok.rows ≡ c.in-Ok-fit_of.fit = search rules in
+    let fits : fit_of g.M.Body.Body.same (change_in c.args.post.now.failed) c.args.kept.now c.in-Ok.rows ≡ c.in-Ok-fit_of.fit = search rules in
     refused_of g.M.Body.Body.same g.M.Machine.loaded g.K.Keeper.holds g.K.Keeper.finds g.K.Keeper.is_faithful g.K.Keeper.failures c.args.post.now
-    c.args.keeper.now c.load.new.self c.args.kept.now c.in-Ok.rows c.in-Ok-fit_of.fit c.events.result c.requires loads fits c.events.ensures c.judged.result
+    c.args.keeper.now c.load.new.self c.args.kept.now c.in-Ok.rows c.in-Ok-fit_of.fit c.events.result
+    c.count.result c.requires loads fits c.events.ensures c.count.ensures c.judged.result
     c.judged.ensures.err

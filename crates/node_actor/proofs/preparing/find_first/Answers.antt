@@ -1,6 +1,5 @@
 use Rattle.std.proofs.Common.{◌≤◌, ◌<◌, ◌^◌, ◌∙◌, ap, refl, subst, rules}
 use Rattle.std.specs.Prelude.{Err}
-use Rattle.store_keeper.specs.declared.fault.KeeperFault.TheVariants as store
 use Rattle.node_actor.specs.Preparing.{anew, worn, worn_first, unread_first}
 use Rattle.node_actor.proofs.preparing.find_first.Goals as goal
 

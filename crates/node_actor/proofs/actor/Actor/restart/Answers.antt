@@ -42,7 +42,7 @@ returns-in-Ok-clause-opens g c =
 
 pub returns-in-Ok-clause-resumes : goal.returns-in-Ok-clause-resumes
 returns-in-Ok-clause-resumes g c = λ view r of held true_to.
-    let opens : Opens g.M.Machine.steps g.M.Machine.content g.M.Machine.loaded g.K.Keeper.holds
+    let opens : Opens g.M.Body.Body.same g.M.Machine.steps g.M.Machine.content g.M.Machine.loaded g.K.Keeper.holds
     g.K.Keeper.is_faithful c.args.post
     c.args.machine c.args.keeper c.of-in-Ok.result = rw (c.of-in-Ok.ensures, c.of.ensures)
     (opens_first g.M.Body.Body.same g.K.Keeper.holds
