@@ -1,7 +1,10 @@
-// Three to seven nodes that play a schedule: how long each turn takes, when a node stands still or starts anew, which packets are lost, and when
+// Three to seven nodes that play a schedule: how long each round takes, when a node stands still or starts anew, which packets are lost, and when
 // clients act. Times are in microseconds.
+mod posting;
+
 use crate::draws::Draws;
-use crate::timed::{Costs, EVENTS_A_TURN, Node};
+use crate::looks::packets_together;
+use crate::timed::{Costs, EVENTS_A_ROUND, Node};
 use crate::voter::{Accepts, Log, Role, Voter, empty_log, majority_of};
 use paxos_packets::{Ballot, Members};
 use std::alloc::Global;
@@ -39,8 +42,8 @@ pub struct Schedule {
     pub loss: u64,
     // From when on it is calm.
     pub calm: u64,
-    // One turn of this many takes long.
-    pub turns_a_stall: u64,
+    // One round of this many takes long.
+    pub rounds_a_stall: u64,
 }
 
 // What clients do.
@@ -62,8 +65,9 @@ pub struct Cluster {
     draws: Draws,
     schedule: Schedule,
     clients: Clients,
-    // How many packets wait at the most.
+    // How many packets wait at the most, and how many a box holds.
     most: usize,
+    together: usize,
     now: u64,
     disturbed: u64,
     // When a ballot was begun, or a node ceased to lead; and how many ballots were begun.
@@ -77,7 +81,7 @@ fn place(node: u8) -> usize {
 }
 
 impl Cluster {
-    // Nodes before the first turn, all of the members.
+    // Nodes before the first round, all of the members.
     pub fn new(
         nodes: Vec<Node>,
         members: Members,
@@ -91,6 +95,7 @@ impl Cluster {
             log: empty_log(),
             draws,
             most: 4096 / schedule.weight.max(1),
+            together: packets_together(schedule.weight),
             schedule,
             clients,
             now: 0,
@@ -100,7 +105,7 @@ impl Cluster {
         }
     }
 
-    // The node whose turn is next, and when it is.
+    // The node that goes on next, and when it does.
     fn next(&self) -> (u8, u64) {
         let mut next = (1, u64::MAX);
         for (node, with) in (1u8..8).zip(self.nodes.iter()) {
@@ -129,36 +134,6 @@ impl Cluster {
             node.is_resting = false;
             node.at = node.at.min(soon.saturating_add(late));
         }
-    }
-
-    // Posts what waits at a node for another, if there is room. Returns whether it did.
-    fn post(&mut self, from: u8, to: u8) -> bool {
-        let is_full = self.nodes.get(place(to)).is_none_or(|node| node
-            .boxes
-            .get(usize::from(from))
-            .is_none_or(|packet| packet.is_some()));
-        if is_full {
-            return false;
-        }
-        let Some(node) = self.nodes.get_mut(place(from)) else {
-            return false;
-        };
-        let Some(packet) = node.post(to) else {
-            return false;
-        };
-        if self.now < self.schedule.calm
-            && self.schedule.loss > 0
-            && self.draws.is_one_in(self.schedule.loss)
-        {
-            return true;
-        }
-        if let Some(node) = self.nodes.get_mut(place(to))
-            && let Some(room) = node.boxes.get_mut(usize::from(from))
-        {
-            *room = Some(packet);
-        }
-        self.wake(to);
-        true
     }
 
     // Whether a node lacks an entry: an Ask brings nothing otherwise, and is left out.
@@ -217,13 +192,13 @@ impl Cluster {
         Some(node.act(&mut self.draws, &mut self.log))
     }
 
-    // What clients do before a turn of a node: how long it takes, if they do anything.
+    // What clients do in a round of a node: how long it takes, if they do anything.
     fn make_acts(&mut self, me: u8) -> Option<u64> {
         let mut cost = None;
         if self.draw_act() {
             cost = self.act(me);
         }
-        for _ in 0..EVENTS_A_TURN {
+        for _ in 0..EVENTS_A_ROUND {
             if !self.acts_at_once(me) {
                 break;
             }
@@ -235,11 +210,11 @@ impl Cluster {
         cost
     }
 
-    // What time brings before a turn of a node: how long it takes, if anything comes.
+    // What time brings as a round of a node begins: how long it takes, if anything comes.
     fn make_due(&mut self, me: u8) -> Option<u64> {
         let asks = self.asks();
         let node = self.nodes.get_mut(place(me))?;
-        node.begin(self.now, self.schedule.weight);
+        node.begin(self.now, self.schedule.weight, self.schedule.costs.entries);
         let (cost, starts) = node.make_events(&mut self.draws, &mut self.log, asks);
         if starts {
             self.changed = self.now;
@@ -248,83 +223,86 @@ impl Cluster {
         cost
     }
 
-    // A round of a node: events, then a turn, which comes once the time is over that the events take.
+    // A node's own events in a round that begins: how long they take, if there are any.
+    fn make_own(&mut self, me: u8) -> Option<u64> {
+        let due = self.make_due(me);
+        let acts = self.make_acts(me);
+        if due.is_none() && acts.is_none() {
+            return None;
+        }
+        Some(due.unwrap_or(0).saturating_add(acts.unwrap_or(0)))
+    }
+
+    // What a node does next before the posts of its round, amid it or as it begins: its own events, or else a packet, or else its commit. How long
+    // that takes, if there is anything.
+    fn work(&mut self, me: u8, is_amid: bool) -> Option<u64> {
+        if !is_amid && let Some(micros) = self.make_own(me) {
+            return Some(micros);
+        }
+        if let Some(micros) = self.treat(me) {
+            return Some(micros);
+        }
+        self.nodes.get_mut(place(me))?.commit(&mut self.draws)
+    }
+
+    // Goes on with the round of a node: its own events, then the packets that it finds, one by one, then one commit for all of these, and then its
+    // posts. Each of these comes once the time is over that the one before takes.
     fn round(&mut self, me: u8) {
         let led = self.leads(me);
-        if self.is_turn_left(me) {
-            self.turn(me, true);
-        } else {
-            let due = self.make_due(me);
-            let acts = self.make_acts(me);
-            if due.is_some() || acts.is_some() {
-                self.put_off(me, due.unwrap_or(0).saturating_add(acts.unwrap_or(0)));
-            } else {
-                self.turn(me, false);
-            }
+        let is_amid = self.is_amid(me);
+        match self.work(me, is_amid) {
+            Some(micros) => self.put_off(me, micros),
+            None => self.end_round(me, is_amid),
         }
         if led && !self.leads(me) {
             self.changed = self.now;
         }
     }
 
-    fn is_turn_left(&self, me: u8) -> bool {
-        self.nodes
-            .get(place(me))
-            .is_some_and(|node| node.is_turn_left)
+    // Whether a node is amid a round.
+    fn is_amid(&self, me: u8) -> bool {
+        self.nodes.get(place(me)).is_some_and(|node| node.is_amid)
     }
 
-    // The turn of the node comes this much later.
+    // The node goes on with its round this much later.
     fn put_off(&mut self, me: u8, micros: u64) {
         if let Some(node) = self.nodes.get_mut(place(me)) {
-            node.is_turn_left = true;
+            node.is_amid = true;
             node.is_resting = false;
             node.at = self.now.saturating_add(micros);
         }
     }
 
-    // The turn of a round.
-    fn turn(&mut self, me: u8, had_events: bool) {
-        let mut is_idle = !had_events;
-        let mut cost = self.draw_turn();
-        for to in 1..self.members.count().saturating_add(1) {
-            is_idle = !self.post_of(me, to) && is_idle;
-        }
-        if let Some((from, micros)) = self.treat(me) {
-            is_idle = false;
-            cost = cost.saturating_add(micros);
-            self.wake(from);
-        }
-        self.end_round(me, is_idle, cost);
+    // Treats the next packet of a node's round: how long it takes, if there is one.
+    fn treat(&mut self, me: u8) -> Option<u64> {
+        let node = self.nodes.get_mut(place(me))?;
+        node.treat(
+            &mut self.draws,
+            &mut self.log,
+            self.schedule.costs,
+            self.together,
+        )
     }
 
-    // How long a turn takes that treats nothing.
-    fn draw_turn(&mut self) -> u64 {
-        if self.draws.is_one_in(self.schedule.turns_a_stall) {
+    // How long a round takes in which nothing happens.
+    fn draw_round(&mut self) -> u64 {
+        if self.draws.is_one_in(self.schedule.rounds_a_stall) {
             self.draws.micros_to(18)
         } else {
             self.draws.below(60).saturating_add(1)
         }
     }
 
-    fn post_of(&mut self, me: u8, to: u8) -> bool {
+    // The round of a node ends with its posts. Then it rests, if it is not busy and posted nothing.
+    fn end_round(&mut self, me: u8, is_busy: bool) {
         if let Some(node) = self.nodes.get_mut(place(me)) {
             node.sort(self.most);
         }
-        me != to && self.post(me, to)
-    }
-
-    fn treat(&mut self, me: u8) -> Option<(u8, u64)> {
-        let node = self.nodes.get_mut(place(me))?;
-        let treated = node.treat(&mut self.draws, &mut self.log, self.schedule.costs);
-        node.sort(self.most);
-        treated
-    }
-
-    // When the node's next round is.
-    fn end_round(&mut self, me: u8, is_idle: bool, cost: u64) {
+        let is_idle = !self.post_all(me) && !is_busy;
+        let cost = self.draw_round();
         if let Some(node) = self.nodes.get_mut(place(me)) {
             node.is_resting = false;
-            node.is_turn_left = false;
+            node.is_amid = false;
             if is_idle {
                 node.rest(&mut self.draws, self.now, cost);
             } else {
@@ -404,13 +382,13 @@ impl Cluster {
         None
     }
 
-    // Plays until the node has taken its next turn, in which it posts what waits. Then it stands still for good.
+    // Plays until the node has ended its round, in which it posts what waits. Then it stands still for good.
     pub fn halt(&mut self, node: u8) {
         for _ in 0..u64::MAX {
             let (next, at) = self.next();
             self.now = self.now.max(at);
             self.round(next);
-            if next == node {
+            if next == node && !self.is_amid(node) {
                 break;
             }
         }

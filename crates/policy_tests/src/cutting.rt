@@ -83,10 +83,10 @@ fn a_cut_is_put_off_until_a_member_has_asked_for_what_it_is_owed(rt: HostRuntime
 }
 
 // How many microseconds a cut took, and how many the next one waits.
-const RESTS: &[(u32, u64)] = &[(0, 0), (1, 9), (4_400, 39_600), (u32::MAX, 38_654_705_655)];
+const RESTS: &[(u32, u64)] = &[(0, 0), (1, 4), (4_400, 17_600), (u32::MAX, 17_179_869_180)];
 
 #[test]
-fn a_cut_waits_for_nine_times_as_long_as_the_last_one_took(rt: HostRuntime) {
+fn a_cut_waits_for_four_times_as_long_as_the_last_one_took(rt: HostRuntime) {
     for row in RESTS {
         let (took, wanted) = *row;
         check_eq!(&rt; rest_after(took), wanted, *row);

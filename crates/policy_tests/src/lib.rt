@@ -21,6 +21,8 @@ mod electing;
 #[cfg(test)]
 mod holding;
 #[cfg(test)]
+mod looks;
+#[cfg(test)]
 mod pacing;
 #[cfg(test)]
 mod schedules;

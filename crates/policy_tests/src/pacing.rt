@@ -137,28 +137,28 @@ fn a_client_that_reads_in_bursts_costs_at_most_a_twelfth_of_the_time(rt: HostRun
     }
 }
 
-// Whether the node leads, how many entries are pending, how many beats a commit takes, and how many acts come before the next round.
-const ACTS: &[(bool, usize, u8, u32)] = &[
-    (true, 0, 0, 1000),
-    (true, 1, 100, 999),
-    (true, 999, 0, 1),
-    (true, 1000, 0, 0),
-    (true, 1024, 0, 0),
-    (false, 0, 0, 64),
-    (false, 0, 1, 2),
-    (false, 0, 100, 2),
-    (false, 1, 0, 0),
-    (false, 1, 100, 0),
-    (false, 1024, 0, 0),
+// Whether the node leads, how many entries are pending, and how many acts come before the next round.
+const ACTS: &[(bool, usize, u32)] = &[
+    (true, 0, 64),
+    (true, 1, 64),
+    (true, 936, 64),
+    (true, 937, 63),
+    (true, 999, 1),
+    (true, 1000, 0),
+    (true, 1024, 0),
+    (true, usize::MAX, 0),
+    (false, 0, 64),
+    (false, 1, 0),
+    (false, 1024, 0),
 ];
 
 #[test]
-fn gives_acts_up_to_1000_pending_if_it_leads_and_else_only_if_none_is(rt: HostRuntime) {
+fn gives_64_acts_up_to_1000_pending_if_it_leads_and_else_only_if_none_is(rt: HostRuntime) {
     let mut admission = Admission::new();
     check!(&rt; !admission.has_room());
     for row in ACTS {
-        let (leads, pending, commit, count) = *row;
-        admission.begin(leads, pending, commit);
+        let (leads, pending, count) = *row;
+        admission.begin(leads, pending);
         for _ in 0..count {
             check!(&rt; admission.has_room(), *row);
             admission.give();

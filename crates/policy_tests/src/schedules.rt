@@ -218,7 +218,7 @@ fn draw_with(
             .below(2)
             .saturating_mul(draws.below(40).saturating_add(2)),
         calm,
-        turns_a_stall: 64,
+        rounds_a_stall: 64,
     };
     let clients = Clients {
         acts: 30,
@@ -258,7 +258,7 @@ pub fn draw_calm(
         weight: 1,
         loss: 0,
         calm: 0,
-        turns_a_stall: 4096,
+        rounds_a_stall: 4096,
     };
     let clients = Clients {
         acts,
@@ -296,7 +296,7 @@ pub fn draw_long(
         weight: 1,
         loss: 0,
         calm: 0,
-        turns_a_stall: 64,
+        rounds_a_stall: 64,
     };
     let clients = Clients {
         acts: 0,

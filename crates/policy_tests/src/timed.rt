@@ -1,10 +1,12 @@
 // A node of a simulated cluster with its time: its ticks, when its beats are due, and the packets that wait. Times are in microseconds.
 use crate::draws::Draws;
-use crate::voter::{Cost, Log, Packet, Role, Says, Voter};
-use paxos_packets::Members;
+use crate::looks::{Came, Looks, no_packets};
+use crate::voter::{Cost, Log, NO_BALLOT, Packet, Role, Says, Voter};
+use paxos_packets::{Ballot, Members};
 use serve_policy::{Admission, Commits, Draining, Due, Sign, Ticks, Turn};
 use std::alloc::Global;
 use std::collections::VecDeque;
+use std::mem;
 
 // How long a beat is, and how much earlier it counts as ended.
 const BEAT: u64 = 2000;
@@ -17,8 +19,8 @@ const BEATS_AT_ONCE: u64 = 5;
 // After how many rounds each a node that does not rest looks at the clock.
 const ROUNDS_A_LOOK: u64 = 64;
 
-// How many events come before a turn at the most.
-pub const EVENTS_A_TURN: u8 = 64;
+// How many events a round has at the most.
+pub const EVENTS_A_ROUND: u8 = 64;
 
 // One commit of this many takes ten times as long as the others.
 const COMMITS_A_STALL: u64 = 100;
@@ -40,31 +42,35 @@ pub struct Node {
     pub voter: Voter,
     ticks: Ticks,
     waits: [VecDeque<Packet>; 8],
-    // The packet of each other that it may fetch, and the one from which it fetches first.
-    pub boxes: [Option<Packet>; 8],
-    first: u8,
-    // What the last turn brought.
-    from: Option<u8>,
-    sign: Sign,
-    pub posted: [bool; 8],
+    // The packets of each other that it may fetch, where it looks for some, and those that the last look found and that are not treated yet.
+    pub boxes: [VecDeque<Packet>; 8],
+    looks: Looks,
+    batch: VecDeque<Packet>,
+    // The packets that came in this round, and to whom some were posted.
+    came: Vec<Came>,
+    posted: [bool; 8],
+    // How long its log was after the round that was counted last, and what it had promised.
+    log: u8,
+    promised: Ballot,
     draining: [Draining; 8],
     may_tick: bool,
     admission: Admission,
     // How long a commit takes here, 0 if rounds are not timed; and how long its rounds have shown that one takes.
     pub commit: u64,
     commits: Commits,
-    // How many rounds it has begun, when the last one, how many commits and acts that one had, and whether its turn alone is left.
+    // How many rounds it has begun, when the last one, how many commits that one had, and whether the node is amid it: its own events are made,
+    // and packets, its commit and posts are left. And whether something that its events changed is to be committed.
     rounds: u64,
     began: u64,
     made: u32,
-    given: u64,
-    pub is_turn_left: bool,
+    pub is_amid: bool,
+    must_commit: bool,
     // Since when no beat is counted, how many were by the clock, how many the ticks have counted since, and how many are due.
     last: u64,
     beat: u64,
     counted: u64,
     due: u64,
-    // When its next turn is, whether it rests until then, and until when it stands still.
+    // When it goes on, whether it rests until then, and until when it stands still.
     pub at: u64,
     pub is_resting: bool,
     pub still: u64,
@@ -83,31 +89,15 @@ impl Node {
         Node {
             ticks: Ticks::new(voter.me, members, is_first),
             voter,
-            waits: [
-                VecDeque::new(alloc),
-                VecDeque::new(alloc),
-                VecDeque::new(alloc),
-                VecDeque::new(alloc),
-                VecDeque::new(alloc),
-                VecDeque::new(alloc),
-                VecDeque::new(alloc),
-                VecDeque::new(alloc),
-            ],
-            boxes: [None; 8],
-            first: 1,
-            from: None,
-            sign: Sign::Nothing,
+            waits: no_packets(alloc),
+            boxes: no_packets(alloc),
+            looks: Looks::new(),
+            batch: VecDeque::new(alloc),
+            came: Vec::new(alloc),
             posted: [false; 8],
-            draining: [
-                Draining::new(),
-                Draining::new(),
-                Draining::new(),
-                Draining::new(),
-                Draining::new(),
-                Draining::new(),
-                Draining::new(),
-                Draining::new(),
-            ],
+            log: 0,
+            promised: NO_BALLOT,
+            draining: [Draining::new(); 8],
             may_tick: true,
             admission: Admission::new(),
             commit,
@@ -115,8 +105,8 @@ impl Node {
             rounds: 0,
             began: at,
             made: 0,
-            given: 0,
-            is_turn_left: false,
+            is_amid: false,
+            must_commit: false,
             last: 0,
             beat: 0,
             counted: 0,
@@ -127,15 +117,20 @@ impl Node {
         }
     }
 
-    // A turn, by what the last one brought.
-    fn turn(&self, from: Option<u8>, sign: Sign) -> Turn {
+    // A turn, after which the log had this length.
+    fn turn(&self, from: Option<u8>, sign: Sign, log: u8) -> Turn {
         Turn {
             from,
             sign,
-            applied: u64::from(self.voter.applied).saturating_mul(64),
+            applied: u64::from(log).saturating_mul(64),
             is_pending: self.voter.is_pending(),
             beats: self.due,
         }
+    }
+
+    // A turn without a packet.
+    fn quiet_turn(&self) -> Turn {
+        self.turn(None, Sign::Nothing, self.voter.applied)
     }
 
     // A turn is counted.
@@ -203,22 +198,70 @@ impl Node {
     fn begin_acts(&mut self) {
         let leads = self.voter.role == Role::Leading;
         let pending = usize::from(self.voter.pending());
-        self.admission.begin(leads, pending, self.commits.beats());
-        self.given = 0;
+        self.admission.begin(leads, pending);
     }
 
-    // A round begins: the last turn is counted.
-    pub fn begin(&mut self, now: u64, weight: usize) {
-        self.note_commits(now);
-        self.begin_acts();
-        self.rounds = self.rounds.saturating_add(1);
-        if self.due == 0 && self.rounds % ROUNDS_A_LOOK == 0 {
-            self.look(now);
+    // Whether a packet of the last round reported an entry that the log has gained in it.
+    fn is_news(&self, packet: Packet) -> bool {
+        let Says::Learned { slot } = packet.says else {
+            return false;
+        };
+        self.log <= slot && slot < self.voter.applied
+    }
+
+    // How many packets of the last round did.
+    fn told(&self) -> u8 {
+        let mut told: u8 = 0;
+        for came in &self.came {
+            if self.is_news(came.packet) {
+                told = told.saturating_add(1);
+            }
         }
-        let turn = self.turn(self.from, self.sign);
+        told
+    }
+
+    // A packet of the last round is counted, after which the log had this length. Of several that prepare the ballot that the node has promised
+    // in the round the first one brought the promise.
+    fn count_packet(&mut self, came: Came, log: u8, entries: u32) {
+        let sign = self.voter.sign_of(came.packet, self.promised, entries);
+        if matches!(sign, Sign::Prepared { .. }) {
+            self.promised = self.voter.promised;
+        }
+        let turn = self.turn(Some(came.from), sign, log);
         self.count(turn);
-        self.from = None;
-        self.sign = Sign::Nothing;
+    }
+
+    // The packets of the last round are counted one by one, as turns. The log grew by one slot at each that reported one of those that it has
+    // gained, and else at the first one.
+    fn count_packets(&mut self, entries: u32) {
+        let applied = self.voter.applied;
+        let mut log = applied.saturating_sub(self.told()).max(self.log);
+        for at in 0..self.came.len() {
+            let Some(came) = self.came.get(at).copied() else {
+                break;
+            };
+            if self.is_news(came.packet) {
+                log = log.saturating_add(1);
+            }
+            self.count_packet(came, log.min(applied), entries);
+        }
+    }
+
+    // The last round is counted as the feed of a served node does: a round in which no packet came is a turn without a packet.
+    fn count_round(&mut self, entries: u32) {
+        if self.came.is_empty() {
+            let turn = self.quiet_turn();
+            self.count(turn);
+        } else {
+            self.count_packets(entries);
+        }
+        self.came.clear();
+        self.log = self.voter.applied;
+        self.promised = self.voter.promised;
+    }
+
+    // Whether a tick may come, by what waits for the others and was posted to them.
+    fn watch(&mut self, weight: usize) {
         let beat = self.ticks.beats();
         let commit = self.commits.beats();
         let mut drains = false;
@@ -235,6 +278,19 @@ impl Node {
         self.posted = [false; 8];
     }
 
+    // A round begins: the last one is counted. A packet stands for so many, and a slot of the history for so many entries.
+    pub fn begin(&mut self, now: u64, weight: usize, entries: u32) {
+        self.note_commits(now);
+        self.begin_acts();
+        self.rounds = self.rounds.saturating_add(1);
+        if self.due == 0 && self.rounds % ROUNDS_A_LOOK == 0 {
+            self.look(now);
+        }
+        self.count_round(entries);
+        self.watch(weight);
+        self.looks.begin(self.voter.count);
+    }
+
     // What time has brought; how long it took, if it brought anything; and whether a ballot was begun.
     pub fn make_events(
         &mut self,
@@ -242,15 +298,16 @@ impl Node {
         log: &mut Log,
         asks: bool,
     ) -> (Option<u64>, bool) {
-        let mut cost = None;
+        let mut cost: Option<u64> = None;
         let mut starts = false;
-        for _ in 0..EVENTS_A_TURN {
+        for _ in 0..EVENTS_A_ROUND {
             match self.ticks.next(self.may_tick, self.commits.beats()) {
                 None => break,
                 Some(Due::Start) => {
                     starts = true;
                     self.voter.start();
-                    cost = Some(self.draw_commit(draws));
+                    let micros = self.draw_cost(draws, Cost::Commit, 40);
+                    cost = Some(cost.unwrap_or(0).saturating_add(micros));
                 },
                 Some(Due::Tick) => {
                     self.voter.tick(asks);
@@ -264,28 +321,31 @@ impl Node {
         (cost, starts)
     }
 
-    // Whether a client may act: the rules have room for an act, and if it leads, fewer were given in this round than may come before a turn.
+    // Whether the rules have room for an act of a client.
     pub fn may_act(&self) -> bool {
-        let leads = self.voter.role == Role::Leading;
-        let is_one_more = !leads || self.given < self.commits.acts_a_round();
-        is_one_more && self.admission.has_room()
+        self.admission.has_room()
     }
 
     // A client acts. How long it took.
     pub fn act(&mut self, draws: &mut Draws, log: &mut Log) -> u64 {
-        self.given = self.given.saturating_add(1);
         self.admission.give();
         let cost = self.voter.take(log);
         self.draw_cost(draws, cost, 95)
     }
 
-    // How long an event takes that made at most one commit, and if it made none not much more than this.
+    // How long an event takes before the commit of its round: not much more than this.
     fn draw_cost(&mut self, draws: &mut Draws, cost: Cost, little: u64) -> u64 {
-        if cost == Cost::Little {
-            draws.below(little).saturating_add(5)
-        } else {
-            self.draw_commit(draws)
+        self.must_commit = self.must_commit || cost != Cost::Little;
+        draws.below(little).saturating_add(5)
+    }
+
+    // Commits together what the events of the round changed: how long that takes, if they changed something.
+    pub fn commit(&mut self, draws: &mut Draws) -> Option<u64> {
+        if !self.must_commit {
+            return None;
         }
+        self.must_commit = false;
+        Some(self.draw_commit(draws))
     }
 
     // What the node sent waits for the others, at most a limited number of packets for each.
@@ -303,61 +363,85 @@ impl Node {
         }
     }
 
-    // The oldest packet that waits for the node and is due, which is posted now.
-    pub fn post(&mut self, to: u8) -> Option<Packet> {
-        let packet = next_due(self.waits.get_mut(usize::from(to))?)?;
+    // How many packets wait for the node.
+    pub fn waiting_for(&self, to: u8) -> usize {
+        match self.waits.get(usize::from(to)) {
+            Some(waits) => waits.len(),
+            None => 0,
+        }
+    }
+
+    // Takes the oldest packet that waits for the node, which is posted now together with so many after it. A Forward gives way to a later one
+    // among those, which has its entries that are still pending.
+    pub fn take(&mut self, to: u8, more: usize) -> Option<Packet> {
         if let Some(posted) = self.posted.get_mut(usize::from(to)) {
             *posted = true;
+        }
+        let waits = self.waits.get_mut(usize::from(to))?;
+        let packet = waits.pop_front()?;
+        if is_forward(&packet) && waits.iter().take(more).any(is_forward) {
+            return None;
         }
         Some(packet)
     }
 
-    // Whether packets wait for the node.
-    pub fn waits_for(&self, to: u8) -> bool {
-        self.waits
-            .get(usize::from(to))
-            .is_some_and(|waits| !waits.is_empty())
+    // Whether packets of the node came in this round.
+    pub fn heard_of(&self, from: u8) -> bool {
+        self.came.iter().any(|came| came.from == from)
     }
 
-    // Fetches a packet; from whom it was.
-    fn fetch(&mut self) -> Option<(u8, Packet)> {
-        let count = self.voter.count.max(1);
-        for step in 0..count {
-            let from = self.first.saturating_add(step).saturating_sub(1) % count + 1;
-            if let Some(place) = self.boxes.get_mut(usize::from(from))
-                && let Some(packet) = place.take()
-            {
-                self.first = from % count + 1;
-                return Some((from, packet));
-            }
+    // Takes the packets out of the box into which it looks now.
+    fn look_into_box(&mut self) {
+        if let Some(packets) = self.boxes.get_mut(usize::from(self.looks.now)) {
+            mem::swap(packets, &mut self.batch);
         }
-        self.first = self.first % count + 1;
+    }
+
+    // Fetches the next packet of the round, of those that the last look found or of those that another one finds. It looks into each node's box
+    // until nothing is in it, or so many packets of that node came.
+    fn fetch(&mut self, most: usize) -> Option<Packet> {
+        for _ in 0..self.looks.left {
+            if self.batch.is_empty() && self.looks.came < most {
+                self.look_into_box();
+            }
+            if let Some(packet) = self.batch.pop_front() {
+                return Some(packet);
+            }
+            self.looks.go_on(self.voter.count);
+        }
         None
     }
 
-    // A turn: it treats a packet, if there is one; from whom it was, and how long it took.
-    pub fn treat(&mut self, draws: &mut Draws, log: &mut Log, costs: Costs) -> Option<(u8, u64)> {
-        let (from, packet) = self.fetch()?;
+    // Treats the next packet of the round, if there is one: how long it took before the round's commit.
+    pub fn treat(
+        &mut self,
+        draws: &mut Draws,
+        log: &mut Log,
+        costs: Costs,
+        most: usize,
+    ) -> Option<u64> {
+        let packet = self.fetch(most)?;
+        let from = self.looks.now;
+        self.looks.came = self.looks.came.saturating_add(1);
+        let _is_put = self.came.push(Came { from, packet }).is_ok();
         let cost = self.voter.treat(log, from, packet);
-        self.from = Some(from);
-        self.sign = self.voter.sign_of(packet, cost, costs.entries);
-        let micros = match cost {
-            Cost::Little | Cost::Commit => self.draw_cost(draws, cost, 60),
+        let micros = self.draw_cost(draws, cost, 60);
+        let more: u64 = match cost {
+            Cost::Little | Cost::Commit => 0,
             Cost::Vote => self.draw_votes(draws, costs.vote),
-            Cost::Takeover => draw_half(draws, costs.takeover).saturating_add(self.draw_commit(
-                draws,
-            )),
+            Cost::Takeover => draw_half(draws, costs.takeover),
         };
-        Some((from, micros))
+        Some(micros.saturating_add(more))
     }
 
-    // How long the votes take for which a slot of the history stands: each of them is committed.
+    // How long the votes take for which a slot of the history stands, with the commits of the rounds in which they come.
     fn draw_votes(&mut self, draws: &mut Draws, vote: u64) -> u64 {
         let micros = draw_half(draws, vote);
-        let first = self.draw_commit(draws);
-        let more = micros / self.commit.max(1);
-        self.made = self.made.max(u32::try_from(more).unwrap_or(u32::MAX));
-        micros.max(first)
+        let commits = micros / self.commit.max(1);
+        self.made = self
+            .made
+            .saturating_add(u32::try_from(commits).unwrap_or(u32::MAX));
+        micros
     }
 
     // Turns without a packet, while beats are due: mostly as many as end them. Otherwise it rests until some are.
@@ -388,7 +472,7 @@ impl Node {
         } else {
             64
         };
-        let turn = self.turn(None, Sign::Nothing);
+        let turn = self.quiet_turn();
         for _ in 0..turns {
             if self.due == 0 {
                 return;
@@ -401,17 +485,6 @@ impl Node {
 // A time up to this one, and at least half of it.
 fn draw_half(draws: &mut Draws, micros: u64) -> u64 {
     (micros / 2).saturating_add(draws.below((micros / 2).saturating_add(1)))
-}
-
-// Takes the oldest of these packets that is due: a Forward gives way to a later one, which has its entries that are still pending.
-fn next_due(waits: &mut VecDeque<Packet>) -> Option<Packet> {
-    for _ in 0..waits.len() {
-        let packet = waits.pop_front()?;
-        if !is_forward(&packet) || !waits.iter().any(is_forward) {
-            return Some(packet);
-        }
-    }
-    None
 }
 
 fn is_forward(packet: &Packet) -> bool {

@@ -1,6 +1,7 @@
 // A node of a cluster whose log has at most 64 slots, without its time: what it promised, voted for, learned and applied, and what it sends.
+mod signs;
+
 use paxos_packets::Ballot;
-use serve_policy::Sign;
 
 // What a slot has, by the greatest ballot that proposed it: an entry of a node, with its number there; node 0 has none.
 #[derive(Clone, Copy)]
@@ -368,8 +369,19 @@ impl Voter {
         }
     }
 
-    // A packet of the node comes.
+    // Whether the packet comes too late to tell anything: it is an Accepted of a slot that is applied.
+    fn is_late(&self, packet: Packet) -> bool {
+        let Says::Accepted { slot } = packet.says else {
+            return false;
+        };
+        slot < self.applied
+    }
+
+    // A packet of the node comes. One that comes too late is passed over.
     pub fn treat(&mut self, log: &mut Log, from: u8, packet: Packet) -> Cost {
+        if self.is_late(packet) {
+            return Cost::Little;
+        }
         let ballot = packet.ballot;
         self.seen = self.seen.max(ballot.round);
         let cost = match packet.says {
@@ -469,49 +481,5 @@ impl Voter {
             self.send(from, NO_BALLOT, Says::Learned { slot });
         }
         Cost::Little
-    }
-
-    // How many entries its votes reach after its log, if a slot stands for so many.
-    fn ahead(&self, entries: u32) -> u32 {
-        let mut ahead: u32 = 0;
-        for slot in self.applied..64 {
-            if self.votes & bit(slot) != 0 {
-                ahead = u32::from(slot.saturating_sub(self.applied)).saturating_add(1);
-            }
-        }
-        ahead.saturating_mul(entries)
-    }
-
-    // What the packet that was treated at this cost shows, by the rules of a served node's feed. A slot stands for so many entries.
-    pub fn sign_of(&self, packet: Packet, cost: Cost, entries: u32) -> Sign {
-        match packet.says {
-            Says::Prepare { .. } => {
-                if cost == Cost::Little {
-                    return Sign::Nothing;
-                }
-                Sign::Prepared {
-                    owner: packet.ballot.node,
-                    slots: self.ahead(entries),
-                }
-            },
-            Says::Promise { .. } | Says::Accept { .. } | Says::Accepted { .. } => {
-                if packet.ballot.is_below(&self.promised) {
-                    return Sign::Nothing;
-                }
-                Sign::AtWork {
-                    owner: packet.ballot.node,
-                }
-            },
-            Says::Nack { promised } => {
-                if packet.ballot == self.promised && packet.ballot.is_below(&promised) {
-                    return Sign::Refused {
-                        owner: promised.node,
-                    };
-                }
-                Sign::Nothing
-            },
-            Says::Learned { .. } => Sign::Told,
-            Says::Forward { .. } | Says::Ask { .. } => Sign::Nothing,
-        }
     }
 }

@@ -92,9 +92,6 @@ struct Round {
     // How many entries the node had applied, and how many commits it had made.
     applied: u64,
     commits: u64,
-    // How many acts were given since, and how many may be before the next one.
-    given: u64,
-    most: u64,
     // Whether the node's log is cut in this round, in which nothing else is given then, and whether the cut was given.
     is_cutting: bool,
     is_cut: bool,
@@ -156,8 +153,6 @@ impl<'a> ClientFeed<'a> {
                 number: 0,
                 applied: 0,
                 commits: 0,
-                given: 0,
-                most: u64::MAX,
                 is_cutting: false,
                 is_cut: false,
                 is_busy: true,
@@ -220,8 +215,6 @@ impl<'a> ClientFeed<'a> {
             Some(Held::Peer)
         } else if !self.boot.admission.has_room() {
             Some(Held::UnderWay)
-        } else if self.round.given >= self.round.most {
-            Some(Held::Commits)
         } else {
             None
         }
@@ -316,14 +309,7 @@ impl<'a> ClientFeed<'a> {
         ensures node { self.new.node ≡ self.old.node }
         ensures lanes { self.new.lanes ≡ self.old.lanes }
     {
-        let commit = self.boot.commits.beats();
-        self.boot.admission.begin(seen.leads, seen.pending, commit);
-        self.round.given = 0;
-        self.round.most = if seen.leads {
-            self.boot.commits.acts_a_round()
-        } else {
-            u64::MAX
-        };
+        self.boot.admission.begin(seen.leads, seen.pending);
     }
 
     // Notes what the node has come to.

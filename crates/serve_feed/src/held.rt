@@ -5,8 +5,6 @@
 pub enum Held {
     /// Another node falls behind, or catches up.
     Peer,
-    /// As many acts are under way as may be.
+    /// As many acts are under way as may be, or as many were given as a round may have.
     UnderWay,
-    /// As many acts were given since the last round as the time of a commit allows.
-    Commits,
 }

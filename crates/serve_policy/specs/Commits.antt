@@ -1,5 +1,5 @@
 -- How long a node's commits take, as its rounds have shown (docs/THREADS.md). Nothing that is claimed of a cluster rests on it.
-use Rattle.std.specs.Prelude.{ℕ, ◌+◌, ◌-◌, ◌*◌, ◌/◌, ◌==◌, suc, nat_lt, max, min, if◌then◌else◌}
+use Rattle.std.specs.Prelude.{ℕ, ◌+◌, ◌-◌, ◌*◌, ◌/◌, ◌==◌, nat_lt, min, if◌then◌else◌}
 
 -- a commit took this many microseconds, and as many others were reckoned with before. The time rises to a longer one, but at most doubles,
 -- half a millisecond aside: a node that stood still once goes on as before. It falls by an eighth of what it is too long
@@ -13,7 +13,3 @@ noting micros commits known = if commits == 0 then known else taking (micros / c
 -- how many whole beats of 2,000 microseconds a commit takes, at most 100
 abbrev pub beats_of : ℕ → ℕ
 beats_of known = min (known / 2000) 100
-
--- how many acts a leader gives before a round: as many as it commits within a beat, but at least one, and at most 64
-abbrev pub acts_a_round : ℕ → ℕ
-acts_a_round known = max (min (2000 / suc known) 64) 1

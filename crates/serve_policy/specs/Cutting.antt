@@ -8,7 +8,7 @@ abbrev pub is_long : ℕ → ℕ → Bool → Bool
 is_long entries waiting is_owed =
     nat_le 131072 entries || (not is_owed && (nat_le 65536 entries || (nat_le 4096 entries && nat_le waiting 256)))
 
--- for how many microseconds a node does not cut after a cut that took this many with its commit: so cuts take at most a tenth of its time. A
+-- for how many microseconds a node does not cut after a cut that took this many with its commit: so cuts take at most a fifth of its time. A
 -- longer rest lets more entries come than the last cut dropped, and each cut takes longer than the last one
 abbrev pub rest_after : ℕ → ℕ
-rest_after took = 9 * took
+rest_after took = 4 * took

@@ -1,23 +1,20 @@
 // How many acts a node gives before a round, as a leader and otherwise; and how many clients it looks at if it gives none.
 ghost use Rattle.std.specs.Prelude.{◌≡◌, ◌-◌, nat_lt};
-ghost use Rattle.serve_policy.specs.Admission.{acts_before_round, forwarded, looks_aside};
+ghost use Rattle.serve_policy.specs.Admission.{acts_before_round, looks_aside};
 
 use std::marker::Model;
 
 /// How many entries may be pending at a node that leads. A node has room for 1,024, so some is always left for its own.
 const MOST_PENDING: usize = 1000;
 
-/// How many acts a node that does not lead gives before a round: as many as it gives to a round at all. All of them go to the leader in one
-/// Forward.
-const MOST_FORWARDED: usize = 64;
-
-/// How many such a node gives if a commit takes a beat or more: the leader commits each of them by itself.
-const MOST_FORWARDED_SLOWLY: usize = 2;
+/// How many acts a node gives before a round at most. A node that does not lead sends all of them to the leader in one Forward, and a leader
+/// takes no more of its own than one Forward has.
+const MOST_ACTS: usize = 64;
 
 /// The number of clients that a node looks at before a round in which it may give no act.
 const LOOKS_ASIDE: u8 = 8;
 
-/// The same if a commit takes a beat or more: a round may have 64 of them, and clients come meanwhile.
+/// The same if a commit takes a beat or more: such a round takes long, and clients come meanwhile.
 const LOOKS_ASIDE_SLOWLY: u8 = 64;
 
 /// How many acts a node may still give before its next round. A clause sees that number.
@@ -45,15 +42,15 @@ impl Admission {
         Admission { left: 0 }
     }
 
-    /// Notes that a round is over, or the first one is to come: whether the node leads, how many entries of it are pending, and how many beats
-    /// a commit takes. Takes constant time.
-    pub fn begin(&mut self, leads: bool, pending: usize, commit: u8)
-        ensures { self.new ≡ acts_before_round leads pending commit }
+    /// Notes that a round is over, or the first one is to come: whether the node leads, and how many entries of it are pending. Takes constant
+    /// time.
+    pub fn begin(&mut self, leads: bool, pending: usize)
+        ensures { self.new ≡ acts_before_round leads pending }
     {
         self.left = if leads {
-            MOST_PENDING.saturating_sub(pending)
+            MOST_ACTS.min(MOST_PENDING.saturating_sub(pending))
         } else if pending == 0 {
-            forwarded(commit)
+            MOST_ACTS
         } else {
             0
         };
@@ -71,17 +68,6 @@ impl Admission {
         ensures { self.new ≡ self.old - 1 }
     {
         self.left = self.left.saturating_sub(1);
-    }
-}
-
-// Returns how many acts a node gives that does not lead, if a commit takes so many beats.
-const fn forwarded(commit: u8) -> usize
-    ensures { result ≡ forwarded commit }
-{
-    if commit == 0 {
-        MOST_FORWARDED
-    } else {
-        MOST_FORWARDED_SLOWLY
     }
 }
 

@@ -1,14 +1,11 @@
-// How long a node's commits take, and how many acts it gives before a round.
+// How long a node's commits take.
 ghost use Rattle.std.specs.Prelude.{◌≡◌};
-ghost use Rattle.serve_policy.specs.Commits.{taking, noting, beats_of, acts_a_round};
+ghost use Rattle.serve_policy.specs.Commits.{taking, noting, beats_of};
 
 use std::marker::Model;
 
 /// The length of a beat in microseconds.
 const BEAT_MICROS: u32 = 2_000;
-
-/// How many acts a leader gives before it posts, at most.
-const MOST_ACTS: u64 = 64;
 
 /// By how many microseconds more than twofold the time rises at a longer commit.
 const MICROS_MORE: u32 = 500;
@@ -18,8 +15,8 @@ const MOST_BEATS: u32 = 100;
 
 /// How long a node's commits take, by its rounds with commits. A clause sees the time in microseconds, which is 0 at first.
 ///
-/// A disk may take ten milliseconds for what another does in a tenth of one. What is sent again goes by that time, and so does how many acts
-/// a node gives before it posts again: what is sent again before it can be answered only keeps the others busy.
+/// A disk may take ten milliseconds for what another does in a tenth of one. What is sent again goes by that time: what is sent again before it
+/// can be answered only keeps the others busy.
 #[derive(Drop)]
 pub struct Commits {
     micros: u32,
@@ -57,15 +54,6 @@ impl Commits {
         ensures { result ≡ beats_of self.now }
     {
         (self.micros / BEAT_MICROS).min(MOST_BEATS) as u8
-    }
-
-    /// Returns how many acts a leader gives before a round: as many as it commits within a beat, but at least one, and at most 64.
-    pub fn acts_a_round(&self) -> u64
-        ensures { result ≡ acts_a_round self.now }
-    {
-        (u64::from(BEAT_MICROS) / (u64::from(self.micros) + 1))
-            .min(MOST_ACTS)
-            .max(1)
     }
 }
 

@@ -15,7 +15,7 @@ const MOST_ENTRIES: u64 = 131_072;
 const MOST_WAITING: usize = 256;
 
 /// How many times as long as a cut took the next one waits.
-const REST: u64 = 9;
+const REST: u64 = 4;
 
 /// Returns whether a log with this many entries above its floor is long enough to be cut, if this many packets wait for the member for which
 /// most do, and `is_owed` says whether a member is owed entries: with 4,096 entries, with 65,536 if more than 256 packets wait, or with 131,072
@@ -29,7 +29,7 @@ pub const fn is_long(entries: u64, waiting: usize, is_owed: bool) -> bool
     entries >= MANY_ENTRIES || entries >= LEAST_ENTRIES && waiting <= MOST_WAITING
 }
 
-/// Returns for how many microseconds a node does not cut after a cut that took this many with its commit: nine times as many.
+/// Returns for how many microseconds a node does not cut after a cut that took this many with its commit: four times as many.
 pub const fn rest_after(took: u32) -> u64
     ensures { result ≡ rest_after took }
 {

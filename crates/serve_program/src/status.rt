@@ -65,7 +65,6 @@ fn cause_of(held: Held) -> &'static str {
     match held {
         Held::Peer => "another node is behind",
         Held::UnderWay => "as many are under way as may be",
-        Held::Commits => "as many were given as a round may have",
     }
 }
 

@@ -66,7 +66,7 @@ impl ClientFeed<'_> {
 
     // Returns whether a client may do something next, and may have done it.
     pub(super) fn may_act(&self) -> bool {
-        self.has_room() && self.round.given < self.round.most && self.lanes.is_on()
+        self.has_room() && self.lanes.is_on()
     }
 
     // Returns whether a client may have done what wants no act, while none may be given.
@@ -99,7 +99,6 @@ impl ClientFeed<'_> {
         };
         self.stay();
         self.boot.admission.give();
-        self.round.given = self.round.given.saturating_add(1);
         Some(Event::Take {
             node: self.node,
             transport,
